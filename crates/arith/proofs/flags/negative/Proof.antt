@@ -1,0 +1,12 @@
+-- `negative` reads N.
+use mathlib.Core.Path.{refl}
+use Rattle.arith.specs.Flags.{nOf}
+use Rattle.arith.proofs.flags.negative.Statement.{statement}
+use Rattle.arith.proofs.flags.negative.Tie as tie
+
+returns : tie.Need-returns
+unfolding nOf
+returns c = refl
+
+pub negative-spec : {M : Type 1} → statement M
+negative-spec = tie.close (tie.spec returns)

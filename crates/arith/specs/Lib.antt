@@ -1,0 +1,8 @@
+-- The numbers of the machine: what its bytes, words and flags are and how they are reckoned with.
+-- Read in this order.
+pub mod Width
+pub mod Flags
+pub mod Bytes
+pub mod Rotates
+pub mod Decimal
+pub mod Words
