@@ -1,0 +1,123 @@
+//! From an input that fails to the smallest one that this search finds: numbers
+//! lowered, registers and bytes made zero, as long as the failure persists.
+
+use crate::input::Input;
+use second::{Ime, Mode, State};
+use std::time::{Duration, Instant};
+
+/// More rounds than this rarely change anything.
+const ROUNDS: usize = 4;
+
+/// A long run in which every byte matters isn't searched to the end.
+const PATIENCE: Duration = Duration::from_secs(15);
+
+type Edit = fn(&mut State);
+
+const REGISTERS: [Edit; 12] = [
+    |s| s.a = 0,
+    |s| s.f = 0,
+    |s| s.b = 0,
+    |s| s.c = 0,
+    |s| s.d = 0,
+    |s| s.e = 0,
+    |s| s.h = 0,
+    |s| s.l = 0,
+    |s| s.sp = 0,
+    |s| s.pc = 0,
+    |s| s.ime = Ime::Off,
+    |s| s.mode = Mode::Running,
+];
+
+struct Search<'a> {
+    input: Input,
+    fails: &'a mut dyn FnMut(&Input) -> bool,
+    deadline: Instant,
+}
+
+/// The smallest input found that still fails.
+pub fn smallest(input: Input, fails: &mut dyn FnMut(&Input) -> bool) -> Input {
+    let deadline = Instant::now() + PATIENCE;
+    let mut search = Search {
+        input,
+        fails,
+        deadline,
+    };
+    for _ in 0..ROUNDS {
+        let before = search.input.clone();
+        search.number();
+        search.bytes(0, before.bytes.len());
+        search.registers();
+        if search.input == before {
+            break;
+        }
+    }
+    search.input
+}
+
+impl Search<'_> {
+    /// Keeps the edit if the failure persists.
+    fn keep(&mut self, edit: impl FnOnce(&mut Input)) -> bool {
+        if Instant::now() > self.deadline {
+            return false;
+        }
+        let mut candidate = self.input.clone();
+        edit(&mut candidate);
+        let kept = candidate != self.input && (self.fails)(&candidate);
+        if kept {
+            self.input = candidate;
+        }
+        kept
+    }
+
+    fn number(&mut self) {
+        let mut less = self.input.number;
+        while less > 0 {
+            while self.input.number >= less && self.keep(|input| input.number -= less) {}
+            less /= 2;
+        }
+    }
+
+    fn registers(&mut self) {
+        for edit in REGISTERS {
+            self.keep(|input| edit(&mut input.state));
+        }
+    }
+
+    /// Zeroes a range at once, or else its halves.
+    fn bytes(&mut self, start: usize, end: usize) {
+        let clear = self.input.bytes[start..end].iter().all(|byte| *byte == 0);
+        if clear || self.keep(|input| input.bytes[start..end].fill(0)) || end - start == 1 {
+            return;
+        }
+        let middle = start + (end - start) / 2;
+        self.bytes(start, middle);
+        self.bytes(middle, end);
+    }
+}
+
+#[cfg(test)]
+mod tests {
+    use super::*;
+
+    #[test]
+    fn only_what_matters_stays() {
+        let state = State {
+            a: 7,
+            h: 8,
+            pc: 9,
+            ime: Ime::On,
+            ..State::default()
+        };
+        let noisy = Input::run(state, vec![0x55; 65_536], 1000);
+        let mut fails =
+            |input: &Input| input.number >= 37 && input.state.h == 8 && input.bytes[0x1234] != 0;
+        let small = smallest(noisy, &mut fails);
+        let mut memory = vec![0; 65_536];
+        memory[0x1234] = 0x55;
+        let state = State {
+            h: 8,
+            ..State::default()
+        };
+        assert_eq!(small, Input::run(state, memory, 37));
+    }
+}

@@ -1,0 +1,107 @@
+//! The command line: what it answers, and that bad usage is one line and a status.
+
+use std::path::PathBuf;
+use std::process::{Command, Output};
+
+fn compare(arguments: &[&str]) -> Output {
+    let mut command = Command::new(env!("CARGO_BIN_EXE_compare"));
+    command.args(arguments).output().expect("it starts")
+}
+
+fn text(bytes: &[u8]) -> String {
+    String::from_utf8(bytes.to_vec()).expect("text")
+}
+
+/// A folder of this test's own, not yet there.
+fn folder(name: &str) -> PathBuf {
+    let folder = std::env::temp_dir().join(format!("compare-{name}-{}", std::process::id()));
+    assert!(!folder.exists(), "{}", folder.display());
+    folder
+}
+
+#[test]
+fn bad_usage_is_one_line_and_a_status() {
+    for arguments in [
+        &["nonsense"][..],
+        &["daa", "nonsense"],
+        &["--seed"],
+        &["--seed", "x"],
+        &["--seed", "-1"],
+        &["--sead", "1"],
+        &["list", "daa"],
+        &["again"],
+        &["again", "leap"],
+        &["again", "step", "AF=10000"],
+        &["again", "row", "row=-1"],
+        &["inputs"],
+        &["inputs", ""],
+        &["inputs", "a", "b"],
+        &["inputs", "/dev/null"],
+        &["inputs", "/dev/null/x"],
+    ] {
+        let output = compare(arguments);
+        assert_eq!(output.status.code(), Some(2), "{arguments:?}");
+        assert_eq!(text(&output.stderr).lines().count(), 1, "{arguments:?}");
+        assert!(output.stdout.is_empty(), "{arguments:?}");
+    }
+}
+
+#[test]
+fn list_names_what_can_be_run() {
+    let listed = text(&compare(&["list"]).stdout);
+    let names: Vec<&str> = listed
+        .lines()
+        .filter_map(|line| line.split(' ').next())
+        .collect();
+    assert_eq!(names.len(), 27);
+    let output = compare(&["--seed", "7", "daa", names[0]]);
+    assert!(output.status.success());
+    let printed = text(&output.stdout);
+    assert!(printed.starts_with("seed 7\n"), "{printed}");
+    let last = printed.lines().last().expect("a last line");
+    let wanted = "total: 2 comparisons, 4108 inputs (second 4108, mgba 4108, ";
+    assert!(
+        last.starts_with(wanted) && last.ends_with(", 0 failed"),
+        "{last}"
+    );
+}
+
+#[test]
+fn an_excuse_that_was_not_needed_is_reported() {
+    let printed = text(&compare(&["daa"]).stdout);
+    assert_eq!(printed.matches("NEVER NEEDED").count(), 3, "{printed}");
+    let printed = text(&compare(&["sequences", "dispatch"]).stdout);
+    assert_eq!(printed.matches("NEVER NEEDED").count(), 0, "{printed}");
+}
+
+#[test]
+fn again_judges_one_input() {
+    let agreed = compare(&["again", "step", "AF=9A00", "0000:27"]);
+    assert!(agreed.status.success());
+    assert!(text(&agreed.stdout).contains("mGBA"));
+    let judged_by_none = compare(&["again", "adding"]);
+    assert_eq!(judged_by_none.status.code(), Some(1));
+}
+
+#[test]
+fn inputs_come_in_pairs_with_the_answers_of_the_second_program() {
+    let folder = folder("inputs");
+    let output = compare(&["inputs", folder.to_str().expect("a plain path")]);
+    assert!(output.status.success());
+    let mut inputs = 0;
+    for entry in std::fs::read_dir(&folder).expect("the folder is there") {
+        let path = entry.expect("an entry").path();
+        if path.extension().is_some_and(|end| end == "in") {
+            let input = std::fs::read(&path).expect("an input");
+            let answer = std::fs::read_to_string(path.with_extension("out")).expect("an answer");
+            assert_eq!(answer, second::program(&input), "{}", path.display());
+            inputs += 1;
+        }
+    }
+    std::fs::remove_dir_all(&folder).expect("the folder goes");
+    assert_eq!(
+        text(&output.stdout),
+        format!("{inputs} inputs and answers written\n")
+    );
+    assert!(inputs > 40, "{inputs}");
+}
