@@ -1,7 +1,7 @@
 -- Operations on bytes, each with its result and its F: the eight of the grid's column `alu`, INC and DEC, and BIT, RES, SET.
 -- Document 01, "The opcode grid" and "Flags"; the entries of the instruction reference under the operations' names.
 -- Assumes nothing.
-use Prim.Native.Nat.{ℕ, _+_, _-_, _/_, _%_, _^_}
+use Prim.Native.Nat.{ℕ, _-_, _/_, _%_, _^_}
 use mathlib.Core.Bool.{Bool, true, false, not}
 use lib.Bits.{bitAnd, bitOr, bitXor}
 use lib.Dec.{eqb}

@@ -1,7 +1,7 @@
 -- Rotates and shifts: the eight of the grid's column `rot`, and the four on A that clear Z. Document 01, "Flags".
 -- Assumes nothing.
 use Prim.Native.Nat.{ℕ, _+_, _*_, _/_, _%_}
-use mathlib.Core.Bool.{Bool, true, false}
+use mathlib.Core.Bool.{Bool, false}
 use lib.Dec.{eqb}
 use Rattle.arith.specs.Width.{oneIf}
 use Rattle.arith.specs.Flags.{flagsOf}
