@@ -1,0 +1,360 @@
+-- Registers stay below 256, SP and PC below 65,536 and every byte of the memory below 256: a step keeps them so.
+-- Assumes nothing.
+use Prim.Native.Nat.{ℕ, _<_, _≤_}
+use mathlib.Core.Bool.{Bool, true, false}
+use mathlib.Core.List.{List, [], _∷_}
+use mathlib.Core.Path.{_≡_, refl}
+use native.Mathlib.Omega.{arith}
+use borrow.Author.Tests.{eqb-true, eqb-false, leb-true, leb-false}
+use lib.Dec.{eqb, leb}
+use lib.ListN.{length}
+use Rattle.arith.specs.Flags.{zOf, cOf}
+use Rattle.arith.specs.declared.Byte.{Byte}
+use Rattle.arith.proofs.Laws.{ByteFits, flags-below, high-below, low-below, word-below, further-below, back-below, offset-below, alu-fits, increased-fits, decreased-fits, rotation-fits, rotation-a-fits, decimal-fits, added-hl-fits, added-sp-fits, reset-below, set-below, tested-below}
+use Rattle.insn.specs.Shapes.{shapeOf}
+use Rattle.insn.specs.declared.Register.{Register}
+use Rattle.insn.specs.declared.Register.the-variants.{B, C, D, E, H, L, A}
+use Rattle.insn.specs.declared.Operand.{Operand}
+use Rattle.insn.specs.declared.Operand.the-variants.{Reg, AtHl, Const}
+use Rattle.insn.specs.declared.Pair.{Pair}
+use Rattle.insn.specs.declared.Pair.the-variants as pair
+use Rattle.insn.specs.declared.Stacked.{Stacked}
+use Rattle.insn.specs.declared.Stacked.the-variants as stacked
+use Rattle.insn.specs.declared.Pointer.{Pointer}
+use Rattle.insn.specs.declared.Pointer.the-variants as pointer
+use Rattle.insn.specs.declared.Insn.{Insn}
+use Rattle.insn.specs.declared.Insn.the-variants.{Nop, StoreSp, Stop, Jr, JrIf, LoadPair, AddHl, StoreAt, LoadAt, IncPair, DecPair, Inc, Dec, Load, RotateA, Daa, Cpl, Scf, Ccf, Halt, Math, RetIf, StoreHigh, AddSp, LoadHigh, LoadHlSp, Pop, Ret, Reti, JumpHl, LoadSpHl, JumpIf, StoreHighC, StoreTo, LoadHighC, LoadFrom, Jump, Rotate, Bit, Res, Set, Di, Ei, CallIf, Push, Call, Rst, Undefined}
+use Rattle.insn.proofs.Sound.{SoundOperand, Sound as SoundInsn, decode-sound}
+use Rattle.machine.specs.State.{withF, regOf, withReg, hlOf, setHl, withPair, withStacked}
+use Rattle.machine.specs.Answers.{With, keeping}
+use Rattle.machine.specs.Memory.{byteAt, stored, wordAt, pendingOf}
+use Rattle.machine.specs.Stack.{pushedOf, returnedTo, calledOf}
+use Rattle.machine.specs.Operands.{valueOf, placedOf, updatedOf, movedOf}
+use Rattle.machine.specs.Execute.{execOf, resultOf, addedToHlOf, addedToSpOf, hlFromSpOf, jumpedIf, calledIf, returnedIf, storedAtOf, loadedFrom, complementedOf, withCarryOf, haltedOf}
+use Rattle.machine.specs.Interrupts.{lowestSet, lowestOf, vectoredOf, dispatchOf}
+use Rattle.machine.specs.Step.{accepting, insnAt, readyOf, endOf, finishedOf, stepOf}
+use Rattle.machine.specs.declared.Cpu.{Cpu}
+use Rattle.machine.specs.declared.Stepped.{Stepped}
+use Rattle.machine.proofs.ReadOverWrite.{stored-same, stored-other, stored-out}
+use Rattle.machine.proofs.Stores.{Store, made, pushStores, callStores, placeStores, execStores, exec-made}
+use Rattle.machine.proofs.Rules.{ruled, nextRest, nextInsn, nextAfter, insnRun, by-rules, by-refusals}
+
+-- a state whose registers are bytes and words, and a memory of bytes
+pub record Sound (s : Cpu) : Type 0 where
+  pub a : s .a < 256
+  pub f : s .f < 256
+  pub b : s .b < 256
+  pub c : s .c < 256
+  pub d : s .d < 256
+  pub e : s .e < 256
+  pub h : s .h < 256
+  pub l : s .l < 256
+  pub sp : s .sp < 65536
+  pub pc : s .pc < 65536
+
+abbrev pub Bytes : List ℕ → Type 0
+Bytes m = (at : ℕ) → byteAt m at < 256
+
+-- what is read
+
+pub word-at-below : (m : List ℕ) (at : ℕ) → Bytes m → wordAt m at < 65536
+unfolding wordAt
+word-at-below m at b = word-below _ _ (b _) (b at)
+
+pub reg-below : (r : Register) (s : Cpu) → Sound s → regOf r s < 256
+unfolding regOf
+reg-below B s h = h .b
+reg-below C s h = h .c
+reg-below D s h = h .d
+reg-below E s h = h .e
+reg-below H s h = h .h
+reg-below L s h = h .l
+reg-below A s h = h .a
+
+pub hl-below : (s : Cpu) → Sound s → hlOf s < 65536
+unfolding hlOf
+hl-below s h = word-below (s .h) (s .l) (h .h) (h .l)
+
+pub value-below : (o : Operand) (s : Cpu) (m : List ℕ) → SoundOperand o → Sound s → Bytes m → valueOf o s m < 256
+unfolding valueOf
+value-below (Reg r) s m i h b = reg-below r s h
+value-below AtHl s m i h b = b (hlOf s)
+value-below (Const v) s m i h b = i
+
+-- what is set
+
+reg-sound : (r : Register) (v : ℕ) (s : Cpu) → v < 256 → Sound s → Sound (withReg r v s)
+unfolding withReg
+reg-sound B v s p h = omega arith
+reg-sound C v s p h = omega arith
+reg-sound D v s p h = omega arith
+reg-sound E v s p h = omega arith
+reg-sound H v s p h = omega arith
+reg-sound L v s p h = omega arith
+reg-sound A v s p h = omega arith
+
+pair-sound : (rp : Pair) (w : ℕ) (s : Cpu) → w < 65536 → Sound s → Sound (withPair rp w s)
+unfolding withPair setHl
+pair-sound pair.Bc w s p h = omega (arith, high-below w, low-below w)
+pair-sound pair.De w s p h = omega (arith, high-below w, low-below w)
+pair-sound pair.Hl w s p h = omega (arith, high-below w, low-below w)
+pair-sound pair.Sp w s p h = omega arith
+
+stacked-sound : (rp : Stacked) (w : ℕ) (s : Cpu) → Sound s → Sound (withStacked rp w s)
+unfolding withStacked setHl
+stacked-sound stacked.Bc w s h = omega (arith, high-below w, low-below w)
+stacked-sound stacked.De w s h = omega (arith, high-below w, low-below w)
+stacked-sound stacked.Hl w s h = omega (arith, high-below w, low-below w)
+stacked-sound stacked.Af w s h = omega (arith, high-below w, low-below w)
+
+flags-sound : (f : ℕ) (s : Cpu) → f < 256 → Sound s → Sound (withF f s)
+flags-sound f s p h = omega arith
+
+hl-sound : (w : ℕ) (s : Cpu) → Sound s → Sound (setHl w s)
+unfolding setHl
+hl-sound w s h = omega (arith, high-below w, low-below w)
+
+moved-sound : (p : Pointer) (s : Cpu) → Sound s → Sound (movedOf p s)
+unfolding movedOf
+moved-sound pointer.Bc s h = h
+moved-sound pointer.De s h = h
+moved-sound pointer.Hli s h = hl-sound _ s h
+moved-sound pointer.Hld s h = hl-sound _ s h
+
+placed-sound : (o : Operand) (v : ℕ) (s : Cpu) (m : List ℕ) → v < 256 → Sound s → Sound (placedOf o v s m .out)
+unfolding placedOf
+placed-sound (Reg r) v s m p h = reg-sound r v s p h
+placed-sound AtHl v s m p h = h
+placed-sound (Const k) v s m p h = h
+
+updated-sound : (o : Operand) (r : Byte) (s : Cpu) (m : List ℕ) → ByteFits r → Sound s → Sound (updatedOf o r s m .out)
+unfolding updatedOf
+updated-sound o r s m f h = placed-sound o (r .value) _ m (f .value-below) (omega (arith, f .flags-below))
+
+result-sound : (r : Byte) (s : Cpu) → ByteFits r → Sound s → Sound (resultOf r s)
+unfolding resultOf
+result-sound r s f h = omega (arith, f .value-below, f .flags-below)
+
+loaded-sound : (at : ℕ) (s : Cpu) (m : List ℕ) → Sound s → Bytes m → Sound (loadedFrom at s m)
+unfolding loadedFrom
+loaded-sound at s m h b = omega (arith, b at)
+
+jumped-sound : (t : Bool) (to : ℕ) (s : Cpu) → to < 65536 → Sound s → Sound (jumpedIf t to s .cpu)
+unfolding jumpedIf
+jumped-sound true to s p h = omega arith
+jumped-sound false to s p h = h
+
+called-sound : (t : Bool) (to : ℕ) (s : Cpu) (m : List ℕ) → to < 65536 → Sound s → Sound (calledIf t to s m .out .cpu)
+unfolding calledIf calledOf pushedOf
+called-sound true to s m p h = omega (arith, back-below 2 (s .sp))
+called-sound false to s m p h = h
+
+returned-sound : (t : Bool) (to : ℕ) (s : Cpu) → to < 65536 → Sound s → Sound (returnedIf t to s .cpu)
+unfolding returnedIf returnedTo
+returned-sound true to s p h = omega (arith, further-below 2 (s .sp))
+returned-sound false to s p h = h
+
+pub exec-sound : (i : Insn) (s : Cpu) (m : List ℕ) → SoundInsn i → Sound s → Bytes m → Sound (execOf i s m .out .cpu)
+unfolding execOf addedToHlOf addedToSpOf hlFromSpOf storedAtOf complementedOf withCarryOf haltedOf returnedTo calledOf pushedOf
+exec-sound Nop s m i h b = h
+exec-sound (StoreSp w) s m i h b = h
+exec-sound Stop s m i h b = omega arith
+exec-sound (Jr e) s m i h b = omega (arith, offset-below e (s .pc))
+exec-sound (JrIf cc e) s m i h b = jumped-sound _ _ s (offset-below e (s .pc)) h
+exec-sound (LoadPair rp w) s m i h b = pair-sound rp w s i h
+exec-sound (AddHl rp) s m i h b = hl-sound _ _ (flags-sound _ s (added-hl-fits _ _ _ .flags-below) h)
+exec-sound (StoreAt p) s m i h b = moved-sound p s h
+exec-sound (LoadAt p) s m i h b = moved-sound p _ (loaded-sound _ s m h b)
+exec-sound (IncPair rp) s m i h b = pair-sound rp _ s (further-below 1 _) h
+exec-sound (DecPair rp) s m i h b = pair-sound rp _ s (back-below 1 _) h
+exec-sound (Inc o) s m i h b = updated-sound o _ s m (increased-fits _ _) h
+exec-sound (Dec o) s m i h b = updated-sound o _ s m (decreased-fits _ _) h
+exec-sound (Load d o) s m i h b = placed-sound d _ s m (value-below o s m (i .1) h b) h
+exec-sound (RotateA r) s m i h b = result-sound _ s (rotation-a-fits r (s .a) _ (h .a)) h
+exec-sound Daa s m i h b = result-sound _ s (decimal-fits (s .a) (s .f)) h
+exec-sound Cpl s m i h b = omega (arith, flags-below (zOf (s .f)) true true (cOf (s .f)))
+exec-sound Scf s m i h b = flags-sound _ s (flags-below _ _ _ _) h
+exec-sound Ccf s m i h b = flags-sound _ s (flags-below _ _ _ _) h
+exec-sound Halt s m i h b = omega arith
+exec-sound (Math op o) s m i h b = result-sound _ s (alu-fits op (s .a) _ (s .f) (h .a) (value-below o s m i h b)) h
+exec-sound (RetIf cc) s m i h b = returned-sound _ _ s (word-at-below m (s .sp) b) h
+exec-sound (StoreHigh n) s m i h b = h
+exec-sound (AddSp e) s m i h b = let r = added-sp-fits (s .sp) e in omega (arith, r .flags-below, r .value-below)
+exec-sound (LoadHigh n) s m i h b = loaded-sound _ s m h b
+exec-sound (LoadHlSp e) s m i h b = hl-sound _ _ (flags-sound _ s (added-sp-fits _ _ .flags-below) h)
+exec-sound (Pop rp) s m i h b = stacked-sound rp _ _ (omega (arith, further-below 2 (s .sp)))
+exec-sound Ret s m i h b = omega (arith, further-below 2 (s .sp), word-at-below m (s .sp) b)
+exec-sound Reti s m i h b = omega (arith, further-below 2 (s .sp), word-at-below m (s .sp) b)
+exec-sound JumpHl s m i h b = omega (arith, hl-below s h)
+exec-sound LoadSpHl s m i h b = omega (arith, hl-below s h)
+exec-sound (JumpIf cc w) s m i h b = jumped-sound _ w s i h
+exec-sound StoreHighC s m i h b = h
+exec-sound (StoreTo w) s m i h b = h
+exec-sound LoadHighC s m i h b = loaded-sound _ s m h b
+exec-sound (LoadFrom w) s m i h b = loaded-sound _ s m h b
+exec-sound (Jump w) s m i h b = omega (arith, i)
+exec-sound (Rotate r o) s m i h b = updated-sound o _ s m (rotation-fits r _ _ (value-below o s m i h b)) h
+exec-sound (Bit k o) s m i h b = flags-sound _ s (tested-below _ _ _) h
+exec-sound (Res k o) s m i h b = placed-sound o _ s m (reset-below k _ (value-below o s m (i .1) h b)) h
+exec-sound (Set k o) s m i h b = placed-sound o _ s m (set-below k _ (value-below o s m (i .1) h b)) h
+exec-sound Di s m i h b = omega arith
+exec-sound Ei s m i h b = omega arith
+exec-sound (CallIf cc w) s m i h b = called-sound _ w s m i h
+exec-sound (Push rp) s m i h b = omega (arith, back-below 2 (s .sp))
+exec-sound (Call w) s m i h b = omega (arith, back-below 2 (s .sp), i)
+exec-sound (Rst v) s m i h b = omega (arith, back-below 2 (s .sp), i)
+exec-sound Undefined s m i h b = h
+
+-- what is stored
+
+abbrev Small : List Store → Type 0
+Small [] = Unit {0}
+Small (x ∷ xs) = (x .value < 256) × Small xs
+
+stored-small : (m : List ℕ) (to v at : ℕ) (t u : Bool) → eqb at to ≡ t → leb (length m) to ≡ u → v < 256 → Bytes m
+    → byteAt (stored m to v) at < 256
+stored-small m to v at false u e k p b = rw (stored-other m to v at (eqb-false at to e)) (b at)
+stored-small m to v at true true e k p b = rw (stored-out m to v (leb-true _ _ k)) (b at)
+stored-small m to v at true false e k p b =
+    rw (eqb-true at to e, stored-same m to v (leb-false (length m) to k)) p
+
+pub stored-bytes : (m : List ℕ) (to v : ℕ) → v < 256 → Bytes m → Bytes (stored m to v)
+stored-bytes m to v p b at = stored-small m to v at _ _ refl refl p b
+
+made-bytes : (xs : List Store) (m : List ℕ) → Small xs → Bytes m → Bytes (made xs m)
+unfolding made
+made-bytes [] m p b = b
+made-bytes (x ∷ xs) m p b = made-bytes xs _ (p .1) (stored-bytes m (x .at) (x .value) (p .0) b)
+
+push-small : (w : ℕ) (s : Cpu) → Small (pushStores w s)
+unfolding pushStores
+push-small w s = (high-below w, (low-below w, tt))
+
+call-small : (t : Bool) (s : Cpu) → Small (callStores t s)
+unfolding callStores
+call-small true s = push-small (s .pc) s
+call-small false s = tt
+
+place-small : (o : Operand) (v : ℕ) (s : Cpu) → v < 256 → Small (placeStores o v s)
+unfolding placeStores
+place-small (Reg r) v s p = tt
+place-small AtHl v s p = (p, tt)
+place-small (Const k) v s p = tt
+
+exec-small : (i : Insn) (s : Cpu) (m : List ℕ) → SoundInsn i → Sound s → Bytes m → Small (execStores i s m)
+unfolding execStores
+exec-small Nop s m i h b = tt
+exec-small (StoreSp w) s m i h b = (low-below (s .sp), (high-below (s .sp), tt))
+exec-small Stop s m i h b = tt
+exec-small (Jr e) s m i h b = tt
+exec-small (JrIf cc e) s m i h b = tt
+exec-small (LoadPair rp w) s m i h b = tt
+exec-small (AddHl rp) s m i h b = tt
+exec-small (StoreAt p) s m i h b = (h .a, tt)
+exec-small (LoadAt p) s m i h b = tt
+exec-small (IncPair rp) s m i h b = tt
+exec-small (DecPair rp) s m i h b = tt
+exec-small (Inc o) s m i h b = place-small o _ s (increased-fits _ _ .value-below)
+exec-small (Dec o) s m i h b = place-small o _ s (decreased-fits _ _ .value-below)
+exec-small (Load d o) s m i h b = place-small d _ s (value-below o s m (i .1) h b)
+exec-small (RotateA r) s m i h b = tt
+exec-small Daa s m i h b = tt
+exec-small Cpl s m i h b = tt
+exec-small Scf s m i h b = tt
+exec-small Ccf s m i h b = tt
+exec-small Halt s m i h b = tt
+exec-small (Math op o) s m i h b = tt
+exec-small (RetIf cc) s m i h b = tt
+exec-small (StoreHigh n) s m i h b = (h .a, tt)
+exec-small (AddSp e) s m i h b = tt
+exec-small (LoadHigh n) s m i h b = tt
+exec-small (LoadHlSp e) s m i h b = tt
+exec-small (Pop rp) s m i h b = tt
+exec-small Ret s m i h b = tt
+exec-small Reti s m i h b = tt
+exec-small JumpHl s m i h b = tt
+exec-small LoadSpHl s m i h b = tt
+exec-small (JumpIf cc w) s m i h b = tt
+exec-small StoreHighC s m i h b = (h .a, tt)
+exec-small (StoreTo w) s m i h b = (h .a, tt)
+exec-small LoadHighC s m i h b = tt
+exec-small (LoadFrom w) s m i h b = tt
+exec-small (Jump w) s m i h b = tt
+exec-small (Rotate r o) s m i h b = place-small o _ s (rotation-fits r _ _ (value-below o s m i h b) .value-below)
+exec-small (Bit k o) s m i h b = tt
+exec-small (Res k o) s m i h b = place-small o _ s (reset-below k _ (value-below o s m (i .1) h b))
+exec-small (Set k o) s m i h b = place-small o _ s (set-below k _ (value-below o s m (i .1) h b))
+exec-small Di s m i h b = tt
+exec-small Ei s m i h b = tt
+exec-small (CallIf cc w) s m i h b = call-small _ s
+exec-small (Push rp) s m i h b = push-small _ s
+exec-small (Call w) s m i h b = call-small true s
+exec-small (Rst v) s m i h b = call-small true s
+exec-small Undefined s m i h b = tt
+
+pub exec-bytes : (i : Insn) (s : Cpu) (m : List ℕ) → SoundInsn i → Sound s → Bytes m → Bytes (execOf i s m .mem)
+exec-bytes i s m k h b = rw (exec-made i s m) (made-bytes (execStores i s m) m (exec-small i s m k h b) b)
+
+-- a dispatch
+
+lowest-at : (b0 b1 b2 b3 : Bool) → lowestSet b0 b1 b2 b3 ≤ 4
+unfolding lowestSet
+lowest-at true b1 b2 b3 = omega arith
+lowest-at false true b2 b3 = omega arith
+lowest-at false false true b3 = omega arith
+lowest-at false false false true = omega arith
+lowest-at false false false false = omega arith
+
+pub lowest-most : (p : ℕ) → lowestOf p ≤ 4
+unfolding lowestOf
+lowest-most p = lowest-at _ _ _ _
+
+-- a step
+
+pub record SoundStep (w : With Stepped) : Type 0 where
+  pub cpu : Sound (w .out .cpu)
+  pub mem : Bytes (w .mem)
+
+module _ (s : Cpu) (m : List ℕ) (h : Sound s) (b : Bytes m) where
+  dispatch-sound : SoundStep (accepting 5 (dispatchOf (lowestOf (pendingOf m)) s m))
+  unfolding dispatchOf pushedOf vectoredOf
+  dispatch-sound =
+      let cleared = stored-bytes m 0xFF0F _ (reset-below _ _ (b 0xFF0F)) b in
+      record {
+        cpu = omega (arith, lowest-most (pendingOf m), back-below 2 (s .sp));
+        mem = stored-bytes _ _ _ (low-below (s .pc)) (stored-bytes _ _ _ (high-below (s .pc)) cleared);
+      }
+
+  pub next-sound : SoundInsn (nextInsn s m)
+  unfolding nextInsn insnAt
+  next-sound = decode-sound _ _ _ (b _) (word-at-below m (nextRest s) b)
+
+  ready-sound : Sound (readyOf (nextAfter s m) s)
+  unfolding readyOf nextAfter
+  ready-sound = omega (arith, further-below (shapeOf (nextInsn s m) .more) (nextRest s))
+
+  insn-sound : SoundStep (insnRun s m)
+  unfolding insnRun finishedOf endOf
+  insn-sound =
+      let r = exec-sound (nextInsn s m) (readyOf (nextAfter s m) s) m next-sound ready-sound b in
+      record {
+        cpu = omega (arith, r);
+        mem = exec-bytes (nextInsn s m) (readyOf (nextAfter s m) s) m next-sound ready-sound b;
+      }
+
+  unmoved : (n k : ℕ) → SoundStep (keeping (record { code = n; cycles = k; cpu = s }) m)
+  unmoved n k = record { cpu = h; mem = b }
+
+  pub ruled-sound : SoundStep (ruled s m)
+  ruled-sound =
+      by-rules SoundStep s m
+      record {
+        stopped = λ _. unmoved 3 0;
+        dispatch = λ _ _. dispatch-sound;
+        idle = λ _ _ _. unmoved 0 1;
+        undefined = λ _ _ _ _. unmoved 4 0;
+        insn = λ _ _ _ _. insn-sound;
+      }
+
+  pub step-sound : SoundStep (stepOf s m)
+  step-sound = by-refusals SoundStep s m record { unfit = λ _. unmoved 1 0; flags = λ _ _. unmoved 2 0; valid = λ _ _. ruled-sound }

@@ -1,0 +1,131 @@
+-- What a step costs: an instruction at most 6 cycles, of which at most 3 for a branch taken; an accepted step 1 to 6.
+-- Assumes nothing.
+use Prim.Native.Nat.{ℕ, _+_, _≤_}
+use mathlib.Core.Bool.{Bool, true, false}
+use mathlib.Core.List.{List}
+use mathlib.Core.Path.{_≡_}
+use native.Mathlib.Omega.{arith}
+use Rattle.arith.specs.Words.{offsetOf}
+use Rattle.insn.specs.Shapes.{shapeOf, accessOf}
+use Rattle.insn.specs.declared.Operand.{Operand}
+use Rattle.insn.specs.declared.Operand.the-variants.{Reg, AtHl, Const}
+use Rattle.insn.specs.declared.Insn.{Insn}
+use Rattle.insn.specs.declared.Insn.the-variants.{Nop, StoreSp, Stop, Jr, JrIf, LoadPair, AddHl, StoreAt, LoadAt, IncPair, DecPair, Inc, Dec, Load, RotateA, Daa, Cpl, Scf, Ccf, Halt, Math, RetIf, StoreHigh, AddSp, LoadHigh, LoadHlSp, Pop, Ret, Reti, JumpHl, LoadSpHl, JumpIf, StoreHighC, StoreTo, LoadHighC, LoadFrom, Jump, Rotate, Bit, Res, Set, Di, Ei, CallIf, Push, Call, Rst, Undefined}
+use Rattle.machine.specs.Answers.{With}
+use Rattle.machine.specs.State.{metOf}
+use Rattle.machine.specs.Memory.{wordAt}
+use Rattle.machine.specs.Execute.{execOf, jumpedIf, calledIf, returnedIf}
+use Rattle.machine.specs.Step.{readyOf, endOf, finishedOf, stepOf}
+use Rattle.machine.specs.declared.Cpu.{Cpu}
+use Rattle.machine.specs.declared.Stepped.{Stepped}
+use Rattle.machine.proofs.Rules.{ruled, insnRun, nextInsn, nextAfter, by-rules, by-refusals}
+
+access-most : (o : Operand) → accessOf o ≤ 1
+unfolding accessOf
+access-most (Reg r) = omega arith
+access-most AtHl = omega arith
+access-most (Const v) = omega arith
+
+jumped-most : (t : Bool) (to : ℕ) (s : Cpu) → jumpedIf t to s .extra ≤ 1
+unfolding jumpedIf
+jumped-most true to s = omega arith
+jumped-most false to s = omega arith
+
+called-most : (t : Bool) (to : ℕ) (s : Cpu) (m : List ℕ) → calledIf t to s m .out .extra ≤ 3
+unfolding calledIf
+called-most true to s m = omega arith
+called-most false to s m = omega arith
+
+returned-most : (t : Bool) (to : ℕ) (s : Cpu) → returnedIf t to s .extra ≤ 3
+unfolding returnedIf
+returned-most true to s = omega arith
+returned-most false to s = omega arith
+
+-- x cycles beyond its own c
+record Cost (c x : ℕ) : Type 0 where
+  extra : x ≤ 3
+  whole : c + x ≤ 6
+
+exec-cost : (i : Insn) (s : Cpu) (m : List ℕ) → Cost (shapeOf i .cycles) (execOf i s m .out .extra)
+unfolding execOf shapeOf
+exec-cost Nop s m = omega arith
+exec-cost (StoreSp w) s m = omega arith
+exec-cost Stop s m = omega arith
+exec-cost (Jr e) s m = omega arith
+exec-cost (JrIf cc e) s m = omega (arith, jumped-most (metOf cc (s .f)) (offsetOf e (s .pc)) s)
+exec-cost (LoadPair rp w) s m = omega arith
+exec-cost (AddHl rp) s m = omega arith
+exec-cost (StoreAt p) s m = omega arith
+exec-cost (LoadAt p) s m = omega arith
+exec-cost (IncPair rp) s m = omega arith
+exec-cost (DecPair rp) s m = omega arith
+exec-cost (Inc o) s m = omega (arith, access-most o)
+exec-cost (Dec o) s m = omega (arith, access-most o)
+exec-cost (Load d o) s m = omega (arith, access-most d, access-most o)
+exec-cost (RotateA r) s m = omega arith
+exec-cost Daa s m = omega arith
+exec-cost Cpl s m = omega arith
+exec-cost Scf s m = omega arith
+exec-cost Ccf s m = omega arith
+exec-cost Halt s m = omega arith
+exec-cost (Math op o) s m = omega (arith, access-most o)
+exec-cost (RetIf cc) s m = omega (arith, returned-most (metOf cc (s .f)) (wordAt m (s .sp)) s)
+exec-cost (StoreHigh n) s m = omega arith
+exec-cost (AddSp e) s m = omega arith
+exec-cost (LoadHigh n) s m = omega arith
+exec-cost (LoadHlSp e) s m = omega arith
+exec-cost (Pop rp) s m = omega arith
+exec-cost Ret s m = omega arith
+exec-cost Reti s m = omega arith
+exec-cost JumpHl s m = omega arith
+exec-cost LoadSpHl s m = omega arith
+exec-cost (JumpIf cc w) s m = omega (arith, jumped-most (metOf cc (s .f)) w s)
+exec-cost StoreHighC s m = omega arith
+exec-cost (StoreTo w) s m = omega arith
+exec-cost LoadHighC s m = omega arith
+exec-cost (LoadFrom w) s m = omega arith
+exec-cost (Jump w) s m = omega arith
+exec-cost (Rotate r o) s m = omega (arith, access-most o)
+exec-cost (Bit k o) s m = omega (arith, access-most o)
+exec-cost (Res k o) s m = omega (arith, access-most o)
+exec-cost (Set k o) s m = omega (arith, access-most o)
+exec-cost Di s m = omega arith
+exec-cost Ei s m = omega arith
+exec-cost (CallIf cc w) s m = omega (arith, called-most (metOf cc (s .f)) w s m)
+exec-cost (Push rp) s m = omega arith
+exec-cost (Call w) s m = omega arith
+exec-cost (Rst v) s m = omega arith
+exec-cost Undefined s m = omega arith
+
+pub extra-most : (i : Insn) (s : Cpu) (m : List ℕ) → execOf i s m .out .extra ≤ 3
+extra-most i s m = exec-cost i s m .extra
+
+pub cycles-most : (i : Insn) (s : Cpu) (m : List ℕ) → shapeOf i .cycles + execOf i s m .out .extra ≤ 6
+cycles-most i s m = exec-cost i s m .whole
+
+-- where a step is accepted it costs 1 to 6
+pub record Paid (w : With Stepped) : Type 0 where
+  pub least : w .out .code ≡ 0 → 1 ≤ w .out .cycles
+  pub most : w .out .cycles ≤ 6
+
+module _ (s : Cpu) (m : List ℕ) where
+  pub ruled-paid : Paid (ruled s m)
+  unfolding insnRun finishedOf endOf
+  ruled-paid =
+      by-rules Paid s m
+      record {
+        stopped = λ _. omega arith;
+        dispatch = λ _ _. omega arith;
+        idle = λ _ _ _. omega arith;
+        undefined = λ _ _ _ _. omega arith;
+        insn = λ _ _ _ p. omega (arith, cycles-most (nextInsn s m) (readyOf (nextAfter s m) s) m);
+      }
+
+  pub step-paid : Paid (stepOf s m)
+  step-paid = by-refusals Paid s m record { unfit = λ _. omega arith; flags = λ _ _. omega arith; valid = λ _ _. ruled-paid }
+
+  pub ruled-cost : ruled s m .out .code ≡ 0 → (1 ≤ ruled s m .out .cycles) × (ruled s m .out .cycles ≤ 6)
+  ruled-cost e = (ruled-paid .least e, ruled-paid .most)
+
+  pub step-cost : stepOf s m .out .code ≡ 0 → (1 ≤ stepOf s m .out .cycles) × (stepOf s m .out .cycles ≤ 6)
+  step-cost e = (step-paid .least e, step-paid .most)

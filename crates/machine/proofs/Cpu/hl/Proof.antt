@@ -1,0 +1,12 @@
+-- `hl` meets its contract.
+use borrow.Author.Needs.{needs}
+use Rattle.machine.specs.State.{hlOf}
+use Rattle.machine.proofs.Cpu.hl.Statement.{statement}
+use Rattle.machine.proofs.Cpu.hl.Tie as tie
+
+returns : tie.Need-returns
+unfolding hlOf
+returns c = simp (c .word .ensures)
+
+pub hl-spec : {M : Type 1} → statement M
+hl-spec = tie.close (tie.spec (search needs) returns)

@@ -1,0 +1,10 @@
+-- `increase_pair` meets its contract.
+use borrow.Author.Needs.{needs}
+use Rattle.machine.proofs.Cpu.increase_pair.Statement.{statement}
+use Rattle.machine.proofs.Cpu.increase_pair.Tie as tie
+
+returns : tie.Need-returns
+returns c = simp (c .with-pair .ensures, c .before .on .ensures, c .before .before .pair .ensures)
+
+pub increase-pair-spec : {M : Type 1} → statement M
+increase-pair-spec = tie.close (tie.spec (search needs) (search needs) (search needs) returns)

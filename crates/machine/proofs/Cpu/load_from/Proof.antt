@@ -1,0 +1,12 @@
+-- `load_from` meets its contract.
+use borrow.Author.Needs.{needs}
+use Rattle.machine.specs.Execute.{loadedFrom}
+use Rattle.machine.proofs.Cpu.load_from.Statement.{statement}
+use Rattle.machine.proofs.Cpu.load_from.Tie as tie
+
+returns : tie.Need-returns
+unfolding loadedFrom
+returns c = simp (c .read .ensures)
+
+pub load-from-spec : {M : Type 1} → statement M
+load-from-spec = tie.close (tie.spec (search needs) returns)

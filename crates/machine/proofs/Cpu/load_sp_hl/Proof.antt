@@ -1,0 +1,10 @@
+-- `load_sp_hl` meets its contract.
+use borrow.Author.Needs.{needs}
+use Rattle.machine.proofs.Cpu.load_sp_hl.Statement.{statement}
+use Rattle.machine.proofs.Cpu.load_sp_hl.Tie as tie
+
+returns : tie.Need-returns
+returns c = simp (c .with-sp .ensures, c .before .hl .ensures)
+
+pub load-sp-hl-spec : {M : Type 1} → statement M
+load-sp-hl-spec = tie.close (tie.spec (search needs) (search needs) returns)

@@ -1,0 +1,13 @@
+-- `push` meets its contract.
+use borrow.Author.Needs.{needs}
+use Rattle.machine.proofs.Gives.{exactly}
+use Rattle.machine.specs.Stack.{pushedOf}
+use Rattle.machine.proofs.Cpu.push.Statement.{statement}
+use Rattle.machine.proofs.Cpu.push.Tie as tie
+
+returns : tie.Need-returns
+unfolding pushedOf
+returns c = simp (c .with-sp .ensures, c .before .before .before .store2 .ensures, c .before .before .before .before .low .ensures, c .before .before .before .before .before .before .before .before .store .ensures, c .before .before .before .before .before .before .before .before .before .high .ensures, c .before .before .before .before .before .before .before .before .before .before .back-by2 .ensures, c .before .before .before .before .before .before .before .before .before .before .before .before .back-by .ensures) exactly
+
+pub push-spec : {M : Type 1} → statement M
+push-spec = tie.close (tie.spec (search needs) (search needs) (search needs) (search needs) (search needs) (search needs) (search needs) (search needs) returns)

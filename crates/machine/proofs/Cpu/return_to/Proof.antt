@@ -1,0 +1,12 @@
+-- `return_to` meets its contract.
+use borrow.Author.Needs.{needs}
+use Rattle.machine.specs.Stack.{returnedTo}
+use Rattle.machine.proofs.Cpu.return_to.Statement.{statement}
+use Rattle.machine.proofs.Cpu.return_to.Tie as tie
+
+returns : tie.Need-returns
+unfolding returnedTo
+returns c = simp (c .on .ensures)
+
+pub return-to-spec : {M : Type 1} → statement M
+return-to-spec = tie.close (tie.spec (search needs) returns)

@@ -1,0 +1,13 @@
+-- `vector` meets its contract.
+use mathlib.Core.Path.{refl}
+use borrow.Author.Needs.{needs}
+use Rattle.machine.specs.Interrupts.{vectoredOf}
+use Rattle.machine.proofs.Cpu.vector.Statement.{statement}
+use Rattle.machine.proofs.Cpu.vector.Tie as tie
+
+returns : tie.Need-returns
+unfolding vectoredOf
+returns c = refl
+
+pub vector-spec : {M : Type 1} → statement M
+vector-spec = tie.close (tie.spec (search needs) (search needs) returns)

@@ -1,0 +1,123 @@
+-- What a step keeps: the memory's length, and the low four bits of F at 0.
+-- Assumes nothing.
+use Prim.Native.Nat.{ℕ, _%_}
+use mathlib.Core.List.{List}
+use mathlib.Core.Path.{_≡_}
+use native.Mathlib.Omega.{arith}
+use lib.ListN.{length}
+use Rattle.arith.specs.Bytes.{addedOf, subtractedOf, logicOf, comparedOf, aluOf}
+use Rattle.arith.specs.Rotates.{rotationOf, rotationAOf}
+use Rattle.arith.specs.declared.Alu.{Alu}
+use Rattle.arith.specs.declared.Alu.the-variants.{Add, Adc, Sub, Sbc, And, Xor, Or, Cp}
+use Rattle.arith.proofs.Laws.{flags-low, increased-fits, decreased-fits, decimal-fits, added-hl-fits, added-sp-fits, tested-low}
+use Rattle.insn.specs.declared.Stacked.{Stacked}
+use Rattle.insn.specs.declared.Stacked.the-variants as stacked
+use Rattle.insn.specs.declared.Insn.{Insn}
+use Rattle.insn.specs.declared.Insn.the-variants.{Nop, StoreSp, Stop, Jr, JrIf, LoadPair, AddHl, StoreAt, LoadAt, IncPair, DecPair, Inc, Dec, Load, RotateA, Daa, Cpl, Scf, Ccf, Halt, Math, RetIf, StoreHigh, AddSp, LoadHigh, LoadHlSp, Pop, Ret, Reti, JumpHl, LoadSpHl, JumpIf, StoreHighC, StoreTo, LoadHighC, LoadFrom, Jump, Rotate, Bit, Res, Set, Di, Ei, CallIf, Push, Call, Rst, Undefined}
+use Rattle.machine.specs.State.{setHl, withStacked}
+use Rattle.machine.specs.Stack.{pushedOf, returnedTo, calledOf}
+use Rattle.machine.specs.Execute.{execOf, resultOf, addedToHlOf, addedToSpOf, hlFromSpOf, storedAtOf, loadedFrom, complementedOf, withCarryOf, haltedOf}
+use Rattle.machine.specs.Interrupts.{dispatchOf, vectoredOf}
+use Rattle.machine.specs.Step.{readyOf, endOf, finishedOf, stepOf}
+use Rattle.machine.specs.declared.Cpu.{Cpu}
+use Rattle.machine.proofs.Fields.{Same, pair-same, moved-same, placed-same, updated-same, jumped-same, called-same, returned-same}
+use Rattle.machine.proofs.Rules.{ruled, nextInsn, nextAfter, insnRun, by-rules, by-refusals}
+use Rattle.machine.proofs.Stores.{made-length, step-made, ruled-made}
+
+-- length
+
+pub ruled-length : (s : Cpu) (m : List ℕ) → length (ruled s m .mem) ≡ length m
+ruled-length s m = rw (ruled-made s m) (made-length _ m)
+
+pub step-length : (s : Cpu) (m : List ℕ) → length (stepOf s m .mem) ≡ length m
+step-length s m = rw (step-made s m) (made-length _ m)
+
+-- the low four bits of F
+
+alu-low : (op : Alu) (a b f : ℕ) → aluOf op a b f .flags % 16 ≡ 0
+unfolding aluOf addedOf subtractedOf logicOf comparedOf
+alu-low Add a b f = flags-low _ _ _ _
+alu-low Adc a b f = flags-low _ _ _ _
+alu-low Sub a b f = flags-low _ _ _ _
+alu-low Sbc a b f = flags-low _ _ _ _
+alu-low And a b f = flags-low _ _ _ _
+alu-low Xor a b f = flags-low _ _ _ _
+alu-low Or a b f = flags-low _ _ _ _
+alu-low Cp a b f = flags-low _ _ _ _
+
+same-low : {s t : Cpu} → Same s t → s .f % 16 ≡ 0 → t .f % 16 ≡ 0
+same-low e p = rw (e .f) p
+
+stacked-low : (rp : Stacked) (w : ℕ) (s : Cpu) → s .f % 16 ≡ 0 → withStacked rp w s .f % 16 ≡ 0
+unfolding withStacked setHl
+stacked-low stacked.Bc w s p = p
+stacked-low stacked.De w s p = p
+stacked-low stacked.Hl w s p = p
+stacked-low stacked.Af w s p = omega arith
+
+pub exec-low : (i : Insn) (s : Cpu) (m : List ℕ) → s .f % 16 ≡ 0 → execOf i s m .out .cpu .f % 16 ≡ 0
+unfolding execOf resultOf addedToHlOf addedToSpOf hlFromSpOf setHl storedAtOf loadedFrom complementedOf withCarryOf haltedOf rotationOf rotationAOf returnedTo calledOf pushedOf
+exec-low Nop s m p = p
+exec-low (StoreSp w) s m p = p
+exec-low Stop s m p = p
+exec-low (Jr e) s m p = p
+exec-low (JrIf cc e) s m p = same-low (jumped-same _ _ _) p
+exec-low (LoadPair rp w) s m p = same-low (pair-same rp _ _) p
+exec-low (AddHl rp) s m p = added-hl-fits _ _ _ .flags-low
+exec-low (StoreAt q) s m p = same-low (moved-same q _) p
+exec-low (LoadAt q) s m p = same-low (moved-same q _) p
+exec-low (IncPair rp) s m p = same-low (pair-same rp _ _) p
+exec-low (DecPair rp) s m p = same-low (pair-same rp _ _) p
+exec-low (Inc o) s m p = same-low (updated-same o _ s m) (increased-fits _ _ .flags-low)
+exec-low (Dec o) s m p = same-low (updated-same o _ s m) (decreased-fits _ _ .flags-low)
+exec-low (Load d o) s m p = same-low (placed-same _ _ _ m) p
+exec-low (RotateA r) s m p = flags-low _ _ _ _
+exec-low Daa s m p = decimal-fits _ _ .flags-low
+exec-low Cpl s m p = flags-low _ _ _ _
+exec-low Scf s m p = flags-low _ _ _ _
+exec-low Ccf s m p = flags-low _ _ _ _
+exec-low Halt s m p = p
+exec-low (Math op o) s m p = alu-low op _ _ _
+exec-low (RetIf cc) s m p = same-low (returned-same _ _ _) p
+exec-low (StoreHigh n) s m p = p
+exec-low (AddSp e) s m p = added-sp-fits _ _ .flags-low
+exec-low (LoadHigh n) s m p = p
+exec-low (LoadHlSp e) s m p = added-sp-fits _ _ .flags-low
+exec-low (Pop rp) s m p = stacked-low rp _ _ p
+exec-low Ret s m p = p
+exec-low Reti s m p = p
+exec-low JumpHl s m p = p
+exec-low LoadSpHl s m p = p
+exec-low (JumpIf cc w) s m p = same-low (jumped-same _ _ _) p
+exec-low StoreHighC s m p = p
+exec-low (StoreTo w) s m p = p
+exec-low LoadHighC s m p = p
+exec-low (LoadFrom w) s m p = p
+exec-low (Jump w) s m p = p
+exec-low (Rotate r o) s m p = same-low (updated-same o _ s m) (flags-low _ _ _ _)
+exec-low (Bit k o) s m p = tested-low _ _ _
+exec-low (Res k o) s m p = same-low (placed-same _ _ _ m) p
+exec-low (Set k o) s m p = same-low (placed-same _ _ _ m) p
+exec-low Di s m p = p
+exec-low Ei s m p = p
+exec-low (CallIf cc w) s m p = same-low (called-same _ _ _ m) p
+exec-low (Push rp) s m p = p
+exec-low (Call w) s m p = p
+exec-low (Rst v) s m p = p
+exec-low Undefined s m p = p
+
+module _ (s : Cpu) (m : List ℕ) (p : s .f % 16 ≡ 0) where
+  pub ruled-low : ruled s m .out .cpu .f % 16 ≡ 0
+  unfolding insnRun readyOf finishedOf endOf dispatchOf vectoredOf pushedOf
+  ruled-low =
+      by-rules (λ w. w .out .cpu .f % 16 ≡ 0) s m
+      record {
+        stopped = λ _. p;
+        dispatch = λ _ _. p;
+        idle = λ _ _ _. p;
+        undefined = λ _ _ _ _. p;
+        insn = λ _ _ _ _. exec-low (nextInsn s m) (readyOf (nextAfter s m) s) m p;
+      }
+
+  pub step-low : stepOf s m .out .cpu .f % 16 ≡ 0
+  step-low = by-refusals (λ w. w .out .cpu .f % 16 ≡ 0) s m record { unfit = λ _. p; flags = λ _ _. p; valid = λ _ _. ruled-low }

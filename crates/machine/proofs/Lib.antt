@@ -1,0 +1,16 @@
+-- What the proofs share, and laws about the definition for the crates above.
+pub mod Gives
+pub mod ReadOverWrite
+pub mod Fields
+pub mod Rules
+pub mod Costs
+pub mod Refused
+pub mod Stores
+pub mod Keeps
+pub mod Bounds
+pub mod Arming
+pub mod Runs
+pub mod Stages
+pub mod Fetch
+pub mod Turns
+pub mod Unique

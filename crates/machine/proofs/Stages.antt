@@ -1,0 +1,44 @@
+-- Where the tests of a step lead: refusals 1, 2 and 3, the dispatch, the idle step, the instruction.
+-- Assumes nothing.
+use Prim.Native.Nat.{ℕ, _%_}
+use mathlib.Core.Bool.{Bool, true, false, _&&_}
+use mathlib.Core.List.{List}
+use mathlib.Core.Logic.{_≢_}
+use mathlib.Core.Path.{_≡_}
+use borrow.Author.Tests.{eq-eqb, ne-eqb}
+use lib.Dec.{eqb}
+use lib.ListN.{length}
+use Rattle.machine.specs.Answers.{With, keeping}
+use Rattle.machine.specs.Interrupts.{lowestOf, dispatchDueOf, dispatchOf}
+use Rattle.machine.specs.Memory.{pendingOf}
+use Rattle.machine.specs.Step.{refusing, accepting, instructionStep, isHalted, idleStep, dispatchStep, pendingStep, isStopped, stoppedStep, flagsStep, lengthStep, stepOf}
+use Rattle.machine.specs.declared.Cpu.{Cpu}
+use Rattle.machine.proofs.Rules.{ruled}
+
+module _ (s : Cpu) (m : List ℕ) where
+  pub stage-unfit : length m ≢ 65536 → stepOf s m ≡ refusing 1 s m
+  unfolding stepOf lengthStep
+  stage-unfit p = rw (ne-eqb (length m) 65536 p)
+
+  pub stage-flags : length m ≡ 65536 → s .f % 16 ≢ 0 → stepOf s m ≡ refusing 2 s m
+  unfolding stepOf lengthStep flagsStep
+  stage-flags p q = rw (eq-eqb (length m) 65536 p, ne-eqb (s .f % 16) 0 q)
+
+  pub stage-stopped : isStopped (s .mode) ≡ true → ruled s m ≡ refusing 3 s m
+  unfolding stoppedStep
+  stage-stopped p = rw p
+
+  pub stage-dispatch : isStopped (s .mode) ≡ false → dispatchDueOf (s .ime) (pendingOf m) ≡ true
+      → ruled s m ≡ accepting 5 (dispatchOf (lowestOf (pendingOf m)) s m)
+  unfolding stoppedStep pendingStep dispatchStep
+  stage-dispatch p q = rw (p, q)
+
+  pub stage-idle : isStopped (s .mode) ≡ false → dispatchDueOf (s .ime) (pendingOf m) ≡ false
+      → (isHalted (s .mode) && eqb (pendingOf m) 0) ≡ true → ruled s m ≡ accepting 1 (keeping s m)
+  unfolding stoppedStep pendingStep dispatchStep idleStep
+  stage-idle p q r = rw (p, q, r)
+
+  pub stage-insn : isStopped (s .mode) ≡ false → dispatchDueOf (s .ime) (pendingOf m) ≡ false
+      → (isHalted (s .mode) && eqb (pendingOf m) 0) ≡ false → ruled s m ≡ instructionStep s m
+  unfolding stoppedStep pendingStep dispatchStep idleStep
+  stage-insn p q r = rw (p, q, r)

@@ -1,0 +1,13 @@
+-- `read` meets its contract.
+use mathlib.Core.Path.{refl}
+use borrow.Author.Needs.{needs}
+use Rattle.machine.specs.Memory.{byteAt}
+use Rattle.machine.proofs.memory.read.Statement.{statement}
+use Rattle.machine.proofs.memory.read.Tie as tie
+
+returns : tie.Need-returns
+unfolding byteAt
+returns c = refl
+
+pub read-spec : {M : Type 1} → statement M
+read-spec = tie.close (tie.spec (search needs) returns)

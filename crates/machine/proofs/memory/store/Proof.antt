@@ -1,0 +1,13 @@
+-- `store` meets its contract.
+use mathlib.Core.Path.{refl}
+use borrow.Author.Needs.{needs}
+use Rattle.machine.specs.Memory.{stored}
+use Rattle.machine.proofs.memory.store.Statement.{statement}
+use Rattle.machine.proofs.memory.store.Tie as tie
+
+returns : tie.Need-returns
+unfolding stored
+returns c = refl
+
+pub store-spec : {M : Type 1} → statement M
+store-spec = tie.close (tie.spec (search needs) (search needs) returns)

@@ -1,0 +1,95 @@
+// Jumps, calls and returns, with and without a condition.
+use crate::Cpu;
+use crate::Done;
+use crate::memory;
+use arith::words;
+use insn::Cond;
+ghost use mathlib.Core.Path.{_≡_};
+ghost use lib.ListN.{length};
+ghost use Rattle.arith.specs.Words.{offsetOf};
+ghost use Rattle.machine.specs.Answers.{Gives};
+ghost use Rattle.machine.specs.Execute.{jumpedIf, calledIf, returnedIf};
+ghost use Rattle.machine.specs.Memory.{wordAt};
+ghost use Rattle.machine.specs.Stack.{returnedTo};
+ghost use Rattle.machine.specs.State.{withPc, metOf, hlOf};
+
+impl Cpu {
+    // The address after, moved by a signed byte.
+    pub(crate) fn jump_by(self, e: u8) -> Cpu
+        ensures { λ r. ⌜ r ≡ withPc (offsetOf e (self .pc)) self ⌝ }
+    {
+        self.with_pc(words::offset(e, self.pc))
+    }
+
+    pub(crate) fn jump_hl(self) -> Cpu
+        ensures { λ r. ⌜ r ≡ withPc (hlOf self) self ⌝ }
+    {
+        self.with_pc(self.hl())
+    }
+
+    // A taken one costs 1 more.
+    pub(crate) fn jump_if(self, cc: Cond, to: u16) -> Done
+        ensures { λ r. ⌜ r ≡ jumpedIf (metOf cc (self .f)) to self ⌝ }
+    {
+        if self.met(cc) {
+            Done {
+                cpu: self.with_pc(to),
+                extra: 1,
+            }
+        } else {
+            Done {
+                cpu: Cpu { ..self },
+                extra: 0,
+            }
+        }
+    }
+
+    pub(crate) fn jump_by_if(self, cc: Cond, e: u8) -> Done
+        ensures { λ r. ⌜ r ≡ jumpedIf (metOf cc (self .f)) (offsetOf e (self .pc)) self ⌝ }
+    {
+        self.jump_if(cc, words::offset(e, self.pc))
+    }
+
+    // A taken one costs 3 more.
+    pub(crate) fn call_if(self, cc: Cond, to: u16, mem: &mut [u8]) -> Done
+        requires { ⌜ length (now mem) ≡ 65536 ⌝ }
+        ensures { λ r. ⌜ Gives (calledIf (metOf cc (self .f)) to self (now (mem .entry))) r (now (mem .exit)) ⌝ }
+    {
+        if self.met(cc) {
+            Done {
+                cpu: self.call(to, mem),
+                extra: 3,
+            }
+        } else {
+            Done {
+                cpu: Cpu { ..self },
+                extra: 0,
+            }
+        }
+    }
+
+    pub(crate) fn ret(self, mem: &[u8]) -> Cpu
+        requires { ⌜ length (now mem) ≡ 65536 ⌝ }
+        ensures { λ r. ⌜ r ≡ returnedTo (wordAt (now (mem .entry)) (self .sp)) self ⌝ }
+    {
+        self.return_to(memory::read_word(mem, self.sp))
+    }
+
+    // A taken one costs 3 more.
+    pub(crate) fn ret_if(self, cc: Cond, mem: &[u8]) -> Done
+        requires { ⌜ length (now mem) ≡ 65536 ⌝ }
+        ensures { λ r. ⌜ r ≡ returnedIf (metOf cc (self .f)) (wordAt (now (mem .entry)) (self .sp)) self ⌝ }
+    {
+        if self.met(cc) {
+            Done {
+                cpu: self.ret(mem),
+                extra: 3,
+            }
+        } else {
+            Done {
+                cpu: Cpu { ..self },
+                extra: 0,
+            }
+        }
+    }
+}

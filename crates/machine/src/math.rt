@@ -1,0 +1,139 @@
+// Arithmetic, rotates and bits: an operand is read, reckoned with and put back.
+use crate::Cpu;
+use arith::Alu;
+use arith::Rot;
+use arith::bytes;
+use arith::decimal;
+use arith::flags;
+use arith::rotates;
+use arith::words;
+use insn::Operand;
+use insn::Pair;
+ghost use mathlib.Core.Path.{_≡_};
+ghost use lib.ListN.{length};
+ghost use mathlib.Core.Bool.{Bool, true, not};
+ghost use Rattle.arith.specs.Bytes.{aluOf, increasedOf, decreasedOf, resetOf, setOf, testedOf};
+ghost use Rattle.arith.specs.Decimal.{decimalOf};
+ghost use Rattle.arith.specs.Flags.{cOf};
+ghost use Rattle.arith.specs.Rotates.{rotationOf, rotationAOf};
+ghost use Rattle.arith.specs.Words.{further, back};
+ghost use Rattle.machine.specs.Answers.{Gives};
+ghost use Rattle.machine.specs.Execute.{resultOf, addedToHlOf, addedToSpOf, complementedOf, withCarryOf};
+ghost use Rattle.machine.specs.Operands.{valueOf, placedOf, updatedOf};
+ghost use Rattle.machine.specs.State.{withF, pairOf, withPair};
+
+impl Cpu {
+    pub(crate) fn math(self, op: Alu, o: Operand, mem: &[u8]) -> Cpu
+        requires { ⌜ length (now mem) ≡ 65536 ⌝ }
+        ensures { λ r. ⌜ r ≡ resultOf (aluOf op (self .a) (valueOf o self (now (mem .entry))) (self .f)) self ⌝ }
+    {
+        self.with_result(bytes::operate(op, self.a, self.value(o, mem), self.f))
+    }
+
+    pub(crate) fn increase(self, o: Operand, mem: &mut [u8]) -> Cpu
+        requires { ⌜ length (now mem) ≡ 65536 ⌝ }
+        ensures { λ r. ⌜ Gives (updatedOf o (increasedOf (valueOf o self (now (mem .entry))) (self .f)) self (now (mem .entry))) r (now (mem .exit)) ⌝ }
+    {
+        let v = self.value(o, &*mem);
+        self.update(o, bytes::increase(v, self.f), mem)
+    }
+
+    pub(crate) fn decrease(self, o: Operand, mem: &mut [u8]) -> Cpu
+        requires { ⌜ length (now mem) ≡ 65536 ⌝ }
+        ensures { λ r. ⌜ Gives (updatedOf o (decreasedOf (valueOf o self (now (mem .entry))) (self .f)) self (now (mem .entry))) r (now (mem .exit)) ⌝ }
+    {
+        let v = self.value(o, &*mem);
+        self.update(o, bytes::decrease(v, self.f), mem)
+    }
+
+    pub(crate) fn rotate(self, op: Rot, o: Operand, mem: &mut [u8]) -> Cpu
+        requires { ⌜ length (now mem) ≡ 65536 ⌝ }
+        ensures { λ r. ⌜ Gives (updatedOf o (rotationOf op (valueOf o self (now (mem .entry))) (cOf (self .f))) self (now (mem .entry))) r (now (mem .exit)) ⌝ }
+    {
+        let v = self.value(o, &*mem);
+        self.update(o, rotates::rotate(op, v, flags::carry(self.f)), mem)
+    }
+
+    pub(crate) fn reset(self, k: u8, o: Operand, mem: &mut [u8]) -> Cpu
+        requires { ⌜ length (now mem) ≡ 65536 ⌝ }
+        ensures { λ r. ⌜ Gives (placedOf o (resetOf k (valueOf o self (now (mem .entry)))) self (now (mem .entry))) r (now (mem .exit)) ⌝ }
+    {
+        let v = self.value(o, &*mem);
+        self.place(o, bytes::reset(k, v), mem)
+    }
+
+    pub(crate) fn set(self, k: u8, o: Operand, mem: &mut [u8]) -> Cpu
+        requires { ⌜ length (now mem) ≡ 65536 ⌝ }
+        ensures { λ r. ⌜ Gives (placedOf o (setOf k (valueOf o self (now (mem .entry)))) self (now (mem .entry))) r (now (mem .exit)) ⌝ }
+    {
+        let v = self.value(o, &*mem);
+        self.place(o, bytes::set(k, v), mem)
+    }
+
+    pub(crate) fn test(self, k: u8, o: Operand, mem: &[u8]) -> Cpu
+        requires { ⌜ length (now mem) ≡ 65536 ⌝ }
+        ensures { λ r. ⌜ r ≡ withF (testedOf k (valueOf o self (now (mem .entry))) (self .f)) self ⌝ }
+    {
+        self.with_f(bytes::test(k, self.value(o, mem), self.f))
+    }
+
+    pub(crate) fn rotate_a(self, op: Rot) -> Cpu
+        ensures { λ r. ⌜ r ≡ resultOf (rotationAOf op (self .a) (cOf (self .f))) self ⌝ }
+    {
+        self.with_result(rotates::rotate_a(op, self.a, flags::carry(self.f)))
+    }
+
+    pub(crate) fn adjust(self) -> Cpu
+        ensures { λ r. ⌜ r ≡ resultOf (decimalOf (self .a) (self .f)) self ⌝ }
+    {
+        self.with_result(decimal::adjust(self.a, self.f))
+    }
+
+    pub(crate) fn complement(mut self) -> Cpu
+        ensures { λ r. ⌜ r ≡ complementedOf self ⌝ }
+    {
+        self.a = 255 - self.a;
+        self.f = flags::pack(flags::zero(self.f), true, true, flags::carry(self.f));
+        Cpu { ..self }
+    }
+
+    pub(crate) fn set_carry(mut self) -> Cpu
+        ensures { λ r. ⌜ r ≡ withCarryOf true self ⌝ }
+    {
+        self.f = flags::pack(flags::zero(self.f), false, false, true);
+        Cpu { ..self }
+    }
+
+    pub(crate) fn flip_carry(mut self) -> Cpu
+        ensures { λ r. ⌜ r ≡ withCarryOf (not (cOf (self .f))) self ⌝ }
+    {
+        self.f = flags::pack(flags::zero(self.f), false, false, !flags::carry(self.f));
+        Cpu { ..self }
+    }
+
+    pub(crate) fn add_hl(self, p: Pair) -> Cpu
+        ensures { λ r. ⌜ r ≡ addedToHlOf p self ⌝ }
+    {
+        let w = words::add_hl(self.hl(), self.pair(p), self.f);
+        self.with_f(w.flags).with_hl(w.value)
+    }
+
+    pub(crate) fn add_sp(self, e: u8) -> Cpu
+        ensures { λ r. ⌜ r ≡ addedToSpOf e self ⌝ }
+    {
+        let w = words::add_sp(self.sp, e);
+        self.with_f(w.flags).with_sp(w.value)
+    }
+
+    pub(crate) fn increase_pair(self, p: Pair) -> Cpu
+        ensures { λ r. ⌜ r ≡ withPair p (further 1 (pairOf p self)) self ⌝ }
+    {
+        self.with_pair(p, words::on(1, self.pair(p)))
+    }
+
+    pub(crate) fn decrease_pair(self, p: Pair) -> Cpu
+        ensures { λ r. ⌜ r ≡ withPair p (back 1 (pairOf p self)) self ⌝ }
+    {
+        self.with_pair(p, words::back_by(1, self.pair(p)))
+    }
+}

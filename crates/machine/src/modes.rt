@@ -1,0 +1,104 @@
+// The interrupt switch and the modes: EI, HALT, and tests of both.
+use crate::Cpu;
+use crate::Ime;
+use crate::Mode;
+use crate::memory;
+ghost use mathlib.Core.Path.{_≡_};
+ghost use lib.ListN.{length};
+ghost use Rattle.machine.specs.Execute.{armedOf, isOff, haltMode, haltedOf};
+ghost use Rattle.machine.specs.Interrupts.{isOn};
+ghost use Rattle.machine.specs.State.{withIme};
+ghost use Rattle.machine.specs.Step.{isHalted, isStopped, settledIme};
+
+// EI: Off becomes Arming.
+fn armed(ime: Ime) -> Ime
+    ensures { λ r. ⌜ r ≡ armedOf ime ⌝ }
+{
+    match ime {
+        Ime::Off => Ime::Arming,
+        Ime::Arming => Ime::Arming,
+        Ime::On => Ime::On,
+    }
+}
+
+fn is_off(ime: Ime) -> bool
+    ensures { λ r. ⌜ r ≡ isOff ime ⌝ }
+{
+    match ime {
+        Ime::Off => true,
+        Ime::Arming => false,
+        Ime::On => false,
+    }
+}
+
+pub(crate) fn is_on(ime: Ime) -> bool
+    ensures { λ r. ⌜ r ≡ isOn ime ⌝ }
+{
+    match ime {
+        Ime::Off => false,
+        Ime::Arming => false,
+        Ime::On => true,
+    }
+}
+
+pub(crate) fn is_halted(mode: Mode) -> bool
+    ensures { λ r. ⌜ r ≡ isHalted mode ⌝ }
+{
+    match mode {
+        Mode::Running => false,
+        Mode::Repeat => false,
+        Mode::Halted => true,
+        Mode::Stopped => false,
+    }
+}
+
+pub(crate) fn is_stopped(mode: Mode) -> bool
+    ensures { λ r. ⌜ r ≡ isStopped mode ⌝ }
+{
+    match mode {
+        Mode::Running => false,
+        Mode::Repeat => false,
+        Mode::Halted => false,
+        Mode::Stopped => true,
+    }
+}
+
+// IME at the end of an instruction that began with start: Arming has become On, unless DI made it Off.
+pub(crate) fn settled(start: Ime, now: Ime) -> Ime
+    ensures { λ r. ⌜ r ≡ settledIme start now ⌝ }
+{
+    match start {
+        Ime::Off => now,
+        Ime::Arming => match now {
+            Ime::Off => Ime::Off,
+            Ime::Arming => Ime::On,
+            Ime::On => Ime::On,
+        },
+        Ime::On => now,
+    }
+}
+
+fn halt_mode(again: bool) -> Mode
+    ensures { λ r. ⌜ r ≡ haltMode again ⌝ }
+{
+    if again { Mode::Repeat } else { Mode::Halted }
+}
+
+impl Cpu {
+    pub(crate) fn arm(self) -> Cpu
+        ensures { λ r. ⌜ r ≡ withIme (armedOf (self .ime)) self ⌝ }
+    {
+        let ime = self.ime;
+        self.with_ime(armed(ime))
+    }
+
+    // With IME Off and a request pending the byte after HALT is read twice.
+    pub(crate) fn halt(self, mem: &[u8]) -> Cpu
+        requires { ⌜ length (now mem) ≡ 65536 ⌝ }
+        ensures { λ r. ⌜ r ≡ haltedOf self (now (mem .entry)) ⌝ }
+    {
+        let ime = self.ime;
+        let again = is_off(ime) & (memory::pending(mem) != 0);
+        self.with_mode(halt_mode(again))
+    }
+}

@@ -1,0 +1,95 @@
+// Registers and flags: each setter takes the state by value and hands it back with other values.
+use crate::Cpu;
+use crate::Ime;
+use crate::Mode;
+use arith::Byte;
+use arith::flags;
+use insn::Cond;
+use insn::Register;
+ghost use mathlib.Core.Path.{_≡_};
+ghost use Rattle.machine.specs.State.{withF, withAf, withSp, withPc, withIme, withMode, regOf, withReg, metOf};
+ghost use Rattle.machine.specs.Execute.{resultOf};
+
+impl Cpu {
+    pub(crate) fn with_f(mut self, f: u8) -> Cpu
+        ensures { λ r. ⌜ r ≡ withF f self ⌝ }
+    {
+        self.f = f;
+        Cpu { ..self }
+    }
+
+    pub(crate) fn with_sp(mut self, sp: u16) -> Cpu
+        ensures { λ r. ⌜ r ≡ withSp sp self ⌝ }
+    {
+        self.sp = sp;
+        Cpu { ..self }
+    }
+
+    pub(crate) fn with_pc(mut self, pc: u16) -> Cpu
+        ensures { λ r. ⌜ r ≡ withPc pc self ⌝ }
+    {
+        self.pc = pc;
+        Cpu { ..self }
+    }
+
+    pub(crate) fn with_ime(self, ime: Ime) -> Cpu
+        ensures { λ r. ⌜ r ≡ withIme ime self ⌝ }
+    {
+        Cpu { ime, ..self }
+    }
+
+    pub(crate) fn with_mode(self, mode: Mode) -> Cpu
+        ensures { λ r. ⌜ r ≡ withMode mode self ⌝ }
+    {
+        Cpu { mode, ..self }
+    }
+
+    // A and F from a result.
+    pub(crate) fn with_result(mut self, r: Byte) -> Cpu
+        ensures { λ n. ⌜ n ≡ resultOf r self ⌝ }
+    {
+        self.a = r.value;
+        self.f = r.flags;
+        Cpu { ..self }
+    }
+
+    pub(crate) fn register(self, r: Register) -> u8
+        ensures { λ v. ⌜ v ≡ regOf r self ⌝ }
+    {
+        match r {
+            Register::B => self.b,
+            Register::C => self.c,
+            Register::D => self.d,
+            Register::E => self.e,
+            Register::H => self.h,
+            Register::L => self.l,
+            Register::A => self.a,
+        }
+    }
+
+    pub(crate) fn with_register(self, r: Register, v: u8) -> Cpu
+        ensures { λ n. ⌜ n ≡ withReg r v self ⌝ }
+    {
+        match r {
+            Register::B => Cpu { b: v, ..self },
+            Register::C => Cpu { c: v, ..self },
+            Register::D => Cpu { d: v, ..self },
+            Register::E => Cpu { e: v, ..self },
+            Register::H => Cpu { h: v, ..self },
+            Register::L => Cpu { l: v, ..self },
+            Register::A => Cpu { a: v, ..self },
+        }
+    }
+
+    // The condition of a jump holds.
+    pub(crate) fn met(self, cc: Cond) -> bool
+        ensures { λ r. ⌜ r ≡ metOf cc (self .f) ⌝ }
+    {
+        match cc {
+            Cond::Nz => !flags::zero(self.f),
+            Cond::Z => flags::zero(self.f),
+            Cond::Nc => !flags::carry(self.f),
+            Cond::C => flags::carry(self.f),
+        }
+    }
+}
