@@ -1,0 +1,4 @@
+-- The cases, computed.
+pub mod Whole
+pub mod Twelve
+pub mod Example

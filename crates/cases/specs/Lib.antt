@@ -1,0 +1,4 @@
+-- The cases that document 01 wants proved together, and its worked example.
+pub mod Case
+pub mod Twelve
+pub mod Example

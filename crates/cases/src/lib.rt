@@ -1,0 +1,1 @@
+// Cases of the definition that are computed: no code of its own.
