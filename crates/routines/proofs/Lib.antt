@@ -1,0 +1,13 @@
+-- The routines do what is promised of them. From the bottom up: Stepping to Tail serve any routine of this kind, Turn and Loop the
+-- adding routine, Adding has the theorem, and Example shows that its premises can be met.
+pub mod Stepping
+pub mod Runs
+pub mod Opcodes
+pub mod Registers
+pub mod Digits
+pub mod Fields
+pub mod Tail
+pub mod Turn
+pub mod Loop
+pub mod Adding
+pub mod Example
