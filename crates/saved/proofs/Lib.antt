@@ -1,0 +1,10 @@
+-- Laws that belong to no one function.
+pub mod Digits
+pub mod TwoBytes
+pub mod CodesBack
+pub mod Places
+pub mod Accepted
+pub mod Refused
+pub mod Written
+pub mod RoundTrip
+pub mod Unique

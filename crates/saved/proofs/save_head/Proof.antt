@@ -1,0 +1,54 @@
+-- `save_head` writes a whole head where nothing is refused.
+use borrow.Author.Needs.{needs}
+use mathlib.Core.Path.{sym, ap, _∙_}
+use native.Mathlib.Omega.{arith}
+use lib.ListN.{length}
+use Rattle.saved.specs.Refusals.{Accepted, saveHeadCode}
+use Rattle.saved.specs.Answers.{saveHeadOf, savedBy, leftBy}
+use Rattle.saved.proofs.Accepted.{HeadFits, accepted-head-fits}
+use Rattle.saved.proofs.Refused.{refused-left}
+use Rattle.saved.proofs.Written.{head-length, head-written}
+use Rattle.saved.proofs.save_head.Statement.{statement}
+use Rattle.saved.proofs.save_head.Tie as tie
+
+abbrev start : tie.Then1 → tie.Start
+start c = c .before .before .before .before
+
+accepted : (c : tie.Then1) → let a = start c .args in Accepted (saveHeadCode (a .cpu) (a .head .now))
+accepted c = omega arith
+
+fits : (c : tie.Then1) → let a = start c .args in HeadFits (a .cpu) (a .head .now)
+fits c = accepted-head-fits _ _ (accepted c)
+
+refused : (c : tie.Else1)
+    → let a = c .before .before .before .before .args in Accepted (saveHeadCode (a .cpu) (a .head .now)) → ⊥
+refused c e = omega arith
+
+copy-in-requires : tie.Need-copy-in-requires
+copy-in-requires c κs =
+    let bytes = c .before .before in
+    let size = ap length (bytes .bytes-of .ensures) ∙ head-length (start (bytes .before) .args .cpu) in
+    omega (arith, size, fits (bytes .before) .size-is)
+
+returns : tie.Need-returns
+unfolding saveHeadOf savedBy leftBy
+returns c =
+    let copied = c .before .before in
+    let bytes = copied .before .before .before in
+    let then = bytes .before in
+    record {
+      answers = sym (accepted then);
+      leaves =
+          rw (accepted then, copied .copy-in .ensures, bytes .bytes-of .ensures)
+          (head-written (start then .args .cpu) _ (fits then .size-is));
+    }
+
+returns-2 : tie.Need-returns-2
+unfolding saveHeadOf savedBy
+returns-2 c =
+    record { answers = c .before .save-head-refusal .ensures; leaves = sym (refused-left _ _ _ (refused c)) }
+
+pub save-head-spec : {M : Type 1} → statement M
+save-head-spec =
+    tie.close
+    (tie.spec (search needs) (search needs) (search needs) copy-in-requires (search needs) returns (search needs) returns-2)

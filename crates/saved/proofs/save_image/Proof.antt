@@ -1,0 +1,80 @@
+-- `save_image` writes a whole image where nothing is refused: the head, then the memory into the part behind it.
+use borrow.Author.Needs.{needs}
+use mathlib.Core.Path.{_≡_, sym, ap, _∙_}
+use native.Mathlib.Omega.{arith}
+use lib.ListN.{length}
+use Rattle.saved.specs.Head.{imageSize}
+use Rattle.saved.specs.Refusals.{Accepted, saveImageCode}
+use Rattle.saved.specs.Answers.{saveImageOf, savedBy, leftBy}
+use Rattle.saved.proofs.Accepted.{ImageFits, accepted-image-fits}
+use Rattle.saved.proofs.Refused.{refused-left}
+use Rattle.saved.proofs.Written.{head-length, headed, room, image-written}
+use Rattle.saved.proofs.save_image.Statement.{statement}
+use Rattle.saved.proofs.save_image.Tie as tie
+
+abbrev start : tie.Then1 → tie.Start
+start c = c .before .before .before .before .before
+
+accepted : (c : tie.Then1) → let a = start c .args in Accepted (saveImageCode (a .cpu) (a .mem .now) (a .image .now))
+accepted c = omega arith
+
+fits : (c : tie.Then1) → let a = start c .args in ImageFits (a .cpu) (a .mem .now) (a .image .now)
+fits c = accepted-image-fits _ _ _ (accepted c)
+
+refused : (c : tie.Else1)
+    → let a = c .before .before .before .before .before .args in
+    Accepted (saveImageCode (a .cpu) (a .mem .now) (a .image .now)) → ⊥
+refused c e = omega arith
+
+-- the image once the head is in it
+written : (c : tie.After-copy-in)
+    → let a = start (c .before .before .before .before) .args in c .copy-in .last .1 .0 ≡ headed (a .cpu) (a .image .now)
+written c = rw (c .copy-in .ensures, c .before .before .before .bytes-of .ensures)
+
+kept : (c : tie.After-copy-in) → length (c .copy-in .last .1 .0) ≡ imageSize
+kept c = c .copy-in .kept .1 .0 ∙ fits (c .before .before .before .before) .size-is
+
+copy-in-requires : tie.Need-copy-in-requires
+copy-in-requires c κs =
+    let bytes = c .before .before in
+    let size = ap length (bytes .bytes-of .ensures) ∙ head-length (start (bytes .before) .args .cpu) in
+    omega (arith, size, fits (bytes .before) .size-is)
+
+sub-copy-in : tie.Need-sub-copy-in
+sub-copy-in c = omega (arith, kept (c .before .before))
+
+part-copy-in-start : tie.Need-part-copy-in-start
+part-copy-in-start c = omega (arith, kept (c .before .before))
+
+copy-in-requires-2 : tie.Need-copy-in-requires-2
+copy-in-requires-2 c κs =
+    let copied = c .before .before .before in
+    let then = copied .before .before .before .before in
+    let right = fits then in
+    let a = start then .args in
+    rw (written copied, room (a .cpu) (a .mem .now) (a .image .now) (right .size-is) (right .memory-is))
+    (omega (arith, right .memory-is))
+
+returns : tie.Need-returns
+unfolding saveImageOf savedBy leftBy
+returns c =
+    let copied = c .before .before .before .before .before .before in
+    let then = copied .before .before .before .before in
+    let right = fits then in
+    record {
+      answers = sym (accepted then);
+      leaves =
+          rw (accepted then, c .before .before .copy-in2 .ensures, written copied)
+          (image-written _ _ _ (right .size-is) (right .memory-is));
+    }
+
+returns-2 : tie.Need-returns-2
+unfolding saveImageOf savedBy
+returns-2 c =
+    record { answers = c .before .save-image-refusal .ensures; leaves = sym (refused-left _ _ _ (refused c)) }
+
+pub save-image-spec : {M : Type 1} → statement M
+save-image-spec =
+    tie.close
+    (tie.spec (search needs) (search needs) (search needs) copy-in-requires sub-copy-in part-copy-in-start (search needs)
+    copy-in-requires-2 (search needs) returns (search needs) returns-2)

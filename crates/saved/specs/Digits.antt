@@ -1,0 +1,22 @@
+-- Numbers and their digits, highest first, in any base. At base 256 they are big-endian bytes. Document 01, "Saved state".
+-- Assumes nothing.
+use Prim.Native.Nat.{ℕ, zero, suc, _+_, _*_, _/_, _%_, _^_}
+use mathlib.Core.List.{List, [], _∷_}
+use lib.ListN.{length}
+
+-- the number that the digits make, highest first
+unfoldable pub valueOf : ℕ → List ℕ → ℕ
+valueOf base [] = 0
+valueOf base (d ∷ rest) = d * base ^ length rest + valueOf base rest
+
+-- the low k digits of n, highest first
+unfoldable pub digitsOf : ℕ → ℕ → ℕ → List ℕ
+digitsOf base zero n = []
+digitsOf base (suc k) n = n / base ^ k % base ∷ digitsOf base k n
+
+-- a number from its bytes, big-endian, and n in k such bytes
+unfoldable pub numberOf : List ℕ → ℕ
+numberOf bytes = valueOf 256 bytes
+
+unfoldable pub bytesOf : ℕ → ℕ → List ℕ
+bytesOf k n = digitsOf 256 k n

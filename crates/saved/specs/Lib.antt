@@ -1,0 +1,6 @@
+-- The definition of the saved state. Read in this order; the state itself is defined in the crate machine.
+pub mod Digits
+pub mod Codes
+pub mod Head
+pub mod Refusals
+pub mod Answers
