@@ -1,0 +1,4 @@
+-- What the proofs share, and laws about the definition.
+pub mod Texts
+pub mod Ends
+pub mod Unique

@@ -1,0 +1,84 @@
+-- The program: from its input, 65,563 bytes, to the two lines that it prints. Document 01, "The program".
+-- The input is a budget in four bytes and a head, which are the 27 bytes of the lead, and the memory.
+-- Assumes nothing.
+use Prim.Native.Nat.{ℕ, zero, suc}
+use mathlib.Core.Bool.{Bool, true, false, _||_, _&&_}
+use mathlib.Core.List.{List, [], _∷_, _++_}
+use lib.Dec.{eqb}
+use lib.ListN.{length, drop}
+use Rattle.arith.specs.Words.{wordOf}
+use Rattle.machine.specs.Answers.{With, keeping}
+use Rattle.machine.specs.Run.{runOf}
+use Rattle.machine.specs.declared.Cpu.{Cpu}
+use Rattle.machine.specs.declared.Ran.{Ran}
+use Rattle.saved.specs.Answers.{loadHeadOf}
+use Rattle.saved.specs.Codes.{imeCode, modeCode}
+use Rattle.saved.specs.Head.{numberIn}
+use Rattle.saved.specs.declared.Loaded.{Loaded}
+use Rattle.text.specs.Digits.{decimalOf, hexOf}
+use Rattle.text.specs.Written.{blank, written}
+use Rattle.text.specs.declared.Text.{Text}
+
+-- "code spent steps AF BC DE HL SP PC ime mode", and the line's end
+unfoldable pub header : List ℕ
+header =
+    99 ∷ 111 ∷ 100 ∷ 101 ∷ 32 ∷ 115 ∷ 112 ∷ 101 ∷ 110 ∷ 116 ∷ 32 ∷ 115 ∷ 116 ∷ 101 ∷ 112 ∷ 115 ∷ 32 ∷ 65 ∷ 70 ∷ 32 ∷ 66 ∷ 67
+    ∷ 32 ∷ 68 ∷ 69 ∷ 32 ∷ 72 ∷ 76 ∷ 32 ∷ 83 ∷ 80 ∷ 32 ∷ 80 ∷ 67 ∷ 32 ∷ 105 ∷ 109 ∷ 101 ∷ 32 ∷ 109 ∷ 111 ∷ 100 ∷ 101 ∷ 10 ∷ []
+
+-- a number and a space, a word and a space
+unfoldable pub numberThen : ℕ → List ℕ
+numberThen n = decimalOf n ++ (32 ∷ [])
+
+unfoldable pub wordThen : ℕ → List ℕ
+wordThen w = hexOf w ++ (32 ∷ [])
+
+-- the code alone
+unfoldable pub refusalLine : ℕ → List ℕ
+refusalLine code = decimalOf code ++ (10 ∷ [])
+
+-- AF to PC
+unfoldable pub registersLine : Cpu → List ℕ
+registersLine s =
+    wordThen (wordOf (s .a) (s .f))
+    ++ (wordThen (wordOf (s .b) (s .c))
+    ++ (wordThen (wordOf (s .d) (s .e)) ++ (wordThen (wordOf (s .h) (s .l)) ++ (wordThen (s .sp) ++ wordThen (s .pc)))))
+
+-- code, cycles and steps, the registers, the IME and mode codes
+unfoldable pub runLine : Ran → List ℕ
+runLine r =
+    numberThen (r .code)
+    ++ (numberThen (r .spent)
+    ++ (numberThen (r .steps)
+    ++ (registersLine (r .cpu) ++ (numberThen (imeCode (r .cpu .ime)) ++ (decimalOf (modeCode (r .cpu .mode)) ++ (10 ∷ []))))))
+
+-- a run that answers 1, 2 or 5 prints its code alone
+unfoldable pub isBare : ℕ → Bool
+isBare code = eqb code 1 || (eqb code 2 || eqb code 5)
+
+unfoldable pub lineIf : Bool → Ran → List ℕ
+lineIf true r = refusalLine (r .code)
+lineIf false r = runLine r
+
+unfoldable pub printed : List ℕ → Text
+printed line = written line (written header blank)
+
+unfoldable pub ranText : Ran → Text
+ranText r = printed (lineIf (isBare (r .code)) r)
+
+-- the run of a head that was loaded, or the code of one that was refused
+unfoldable pub ranOf : With Ran → With Text
+ranOf w = record { out = ranText (w .out); mem = w .mem }
+
+unfoldable pub loadedRun : ℕ → Cpu → ℕ → List ℕ → With Text
+loadedRun zero s budget m = ranOf (runOf budget s m)
+loadedRun (suc n) s budget m = keeping (printed (refusalLine (suc n))) m
+
+-- an input of the right length, or 6
+unfoldable pub answerIf : Bool → List ℕ → List ℕ → With Text
+answerIf true lead m =
+    loadedRun (loadHeadOf (drop 4 lead) .code) (loadHeadOf (drop 4 lead) .cpu) (numberIn 4 0 lead) m
+answerIf false lead m = keeping (printed (refusalLine 6)) m
+
+-- the lead and the memory, and how many bytes the input has
+unfoldable pub answerOf : ℕ → List ℕ → List ℕ → With Text
+answerOf got lead m = answerIf (eqb got 65563 && eqb (length lead) 27) lead m

@@ -1,0 +1,4 @@
+-- What the program prints. Read in this order.
+pub mod Digits
+pub mod Written
+pub mod Answer

@@ -1,0 +1,9 @@
+// The program's input and output: from the bytes it reads to the two lines it prints.
+pub mod answer;
+mod digits;
+
+// A text that grows: its bytes, and how many there are.
+pub struct Text {
+    pub bytes: [u8; 128],
+    pub len: usize,
+}
