@@ -1,0 +1,23 @@
+-- `trnadulek_save_head` looks at the codes, and then saves the state that the block holds.
+use borrow.Author.Needs.{needs}
+use mathlib.Core.Path.{refl}
+use Rattle.trnadulek.specs.Block.{savedIf, saveBlockOf}
+use Rattle.trnadulek.proofs.trnadulek_save_head.Statement.{statement}
+use Rattle.trnadulek.proofs.trnadulek_save_head.Tie as tie
+
+returns : tie.Need-returns
+unfolding saveBlockOf savedIf
+returns c =
+    let called = c .before .before in
+    let held = called .before .before in
+    let branch = held .before in
+    rw (← (branch .before .has-codes .ensures), branch .if1 .taken, ← (held .state-of .ensures)) (called .save-head .ensures)
+
+returns-2 : tie.Need-returns-2
+unfolding saveBlockOf savedIf
+returns-2 c =
+    rw (← (c .before .has-codes .ensures), c .if1 .left) (record { answers = refl; leaves = refl })
+
+pub trnadulek-save-head-spec : {M : Type 1} → statement M
+trnadulek-save-head-spec =
+    tie.close (tie.spec (search needs) (search needs) (search needs) (search needs) returns returns-2)

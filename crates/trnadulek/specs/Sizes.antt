@@ -1,0 +1,17 @@
+-- The sizes that a host can ask for, by their numbers. Document 01, "What the core is", "Refusal numbers" and "Saved state".
+-- Assumes nothing.
+use Prim.Native.Nat.{ℕ}
+use mathlib.Core.List.{List, [], _∷_}
+use lib.ListN.{getD}
+use Rattle.saved.specs.Head.{blockSize, headSize, memorySize, imageSize}
+
+-- a budget above it is refused with 5
+abbrev pub largestBudget : ℕ
+largestBudget = 1048576
+
+-- 0 a head, 1 a state block, 2 the memory, 3 an image, 4 the largest budget
+unfoldable pub sizes : List ℕ
+sizes = headSize ∷ blockSize ∷ memorySize ∷ imageSize ∷ largestBudget ∷ []
+
+unfoldable pub sizeOf : ℕ → ℕ
+sizeOf which = getD sizes which 0

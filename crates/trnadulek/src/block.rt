@@ -1,0 +1,92 @@
+// The state block: A F B C D E H L, SP, PC, the codes of IME and mode.
+use arith::words;
+use machine::Cpu;
+use machine::Ime;
+use machine::Mode;
+use saved::codes;
+ghost use mathlib.Core.Path.{_≡_};
+ghost use Rattle.saved.specs.Codes.{imeAt, modeAt};
+ghost use Rattle.saved.specs.Head.{blockOf};
+ghost use Rattle.trnadulek.specs.Block.{hasCodes, heldIn};
+
+// The block of a state.
+pub(crate) fn bytes_of(cpu: Cpu) -> [u8; 14]
+    ensures { λ r. ⌜ r ≡ blockOf cpu ⌝ }
+{
+    let ime = cpu.ime;
+    let mode = cpu.mode;
+    let ime_code = codes::ime_code(ime);
+    let mode_code = codes::mode_code(mode);
+    let sp_high = words::high(cpu.sp);
+    let sp_low = words::low(cpu.sp);
+    let pc_high = words::high(cpu.pc);
+    let pc_low = words::low(cpu.pc);
+    [
+        cpu.a,
+        cpu.f,
+        cpu.b,
+        cpu.c,
+        cpu.d,
+        cpu.e,
+        cpu.h,
+        cpu.l,
+        sp_high,
+        sp_low,
+        pc_high,
+        pc_low,
+        ime_code,
+        mode_code,
+    ]
+}
+
+// The codes of IME and mode stand for something.
+pub(crate) fn has_codes(block: &[u8; 14]) -> bool
+    ensures { λ r. ⌜ r ≡ hasCodes (now (block .entry)) ⌝ }
+{
+    (block[12] <= 2) & (block[13] <= 3)
+}
+
+fn ime_at(code: u8) -> Ime
+    ensures { λ r. ⌜ r ≡ imeAt code ⌝ }
+{
+    match code {
+        0 => Ime::Off,
+        1 => Ime::Arming,
+        _ => Ime::On,
+    }
+}
+
+fn mode_at(code: u8) -> Mode
+    ensures { λ r. ⌜ r ≡ modeAt code ⌝ }
+{
+    match code {
+        0 => Mode::Running,
+        1 => Mode::Repeat,
+        2 => Mode::Halted,
+        _ => Mode::Stopped,
+    }
+}
+
+// The state that a block holds.
+pub(crate) fn state_of(block: &[u8; 14]) -> Cpu
+    ensures { λ r. ⌜ r ≡ heldIn (now (block .entry)) ⌝ }
+{
+    let ime = ime_at(block[12]);
+    let mode = mode_at(block[13]);
+    let sp = words::word(block[8], block[9]);
+    let pc = words::word(block[10], block[11]);
+    Cpu {
+        a: block[0],
+        f: block[1],
+        b: block[2],
+        c: block[3],
+        d: block[4],
+        e: block[5],
+        h: block[6],
+        l: block[7],
+        sp,
+        pc,
+        ime,
+        mode,
+    }
+}

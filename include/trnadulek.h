@@ -1,0 +1,252 @@
+/*
+ * Trnadulek: a proved core for the SM83.
+ *
+ * The host lends bytes; the core answers a number. 0 is done, and every other
+ * number is a refusal that says why. There is nothing to test before a call:
+ * any lengths and any contents are either done or refused.
+ *
+ *   memory       65,536 bytes, flat, all of them readable and writable
+ *   head          23 bytes, a saved state (below)
+ *   image     65,559 bytes, a head and the memory after it
+ *   state         14 bytes, the state block: bytes 5 to 18 of a head
+ *
+ * A head, all numbers big-endian:
+ *
+ *   0          version, 1
+ *   1 to 4     length of the state block, 14
+ *   5 to 12    A F B C D E H L
+ *   13, 14     SP
+ *   15, 16     PC
+ *   17         IME: 0 Off, 1 Arming, 2 On
+ *   18         mode: 0 Running, 1 Repeat, 2 Halted, 3 Stopped
+ *   19 to 22   length of the memory, 65,536
+ *
+ * What a call needs of its pointers, and all it needs: none is NULL, also
+ * where its length is 0; each is valid for its length, or for the 14 bytes of
+ * a state block, or for the one number it leads to; what one of them may
+ * write overlaps nothing that another one leads to; and no other thread
+ * writes there, or reads what may be written, before the call returns.
+ *
+ * What a call does with them: it writes only where a pointer is not const,
+ * and only what its comment says. It keeps no pointer and no state, allocates
+ * nothing, reads no clock and no file, and returns after at most a budget's
+ * worth of steps. So it is reentrant, and calls on different bytes may run at
+ * the same time, in any threads.
+ *
+ * Link with libtrnadulek.a.
+ */
+#ifndef TRNADULEK_H
+#define TRNADULEK_H
+
+#include <stddef.h>
+#include <stdint.h>
+
+#ifdef __cplusplus
+extern "C" {
+#endif
+
+/* The sizes. trnadulek_size answers them too. */
+#define TRNADULEK_HEAD_SIZE 23u
+#define TRNADULEK_STATE_SIZE 14u
+#define TRNADULEK_MEMORY_SIZE 65536u
+#define TRNADULEK_IMAGE_SIZE 65559u
+#define TRNADULEK_LARGEST_BUDGET 1048576u
+
+/* The most cycles that a run can spend beyond its budget. */
+#define TRNADULEK_LARGEST_EXCESS 5u
+
+/* The numbers that calls answer. */
+enum trnadulek_code {
+    TRNADULEK_DONE = 0,
+    TRNADULEK_MEMORY_LENGTH = 1, /* memory length is not 65,536 */
+    TRNADULEK_FLAG_BITS = 2,     /* low four bits of F are not 0 */
+    TRNADULEK_STOPPED = 3,       /* mode is Stopped when a step is due */
+    TRNADULEK_UNDEFINED = 4,     /* the step would run an undefined opcode */
+    TRNADULEK_BUDGET = 5,        /* budget above 1,048,576 */
+    TRNADULEK_LENGTH = 6,        /* head, image or output slice of wrong length */
+    TRNADULEK_VERSION = 7,       /* version byte is not 1 */
+    TRNADULEK_BLOCK_LENGTH = 8,  /* a block length is not 14, or not 65,536 */
+    TRNADULEK_STATE_CODE = 9     /* IME code above 2, or mode code above 3 */
+};
+
+/*
+ * Takes one step of the state in a head.
+ *
+ * Refused, in this order, with 6, 7, 8, 9, 2 for the head, 1 for the memory, 3
+ * for a Stopped mode, 4 for an undefined opcode.
+ *
+ * 0: the head holds the next state, the memory what the step stored (at most
+ * three bytes change) and *cycles what it cost, 1 to 6.
+ * Refused: the head and the memory are unchanged, and *cycles is 0.
+ */
+uint8_t trnadulek_step(uint8_t *head, size_t head_len, uint8_t *memory, size_t memory_len, uint8_t *cycles);
+
+/*
+ * Takes steps of the state in a head while the cycles spent are below the
+ * budget.
+ *
+ * Refused, in this order, with 6, 7, 8, 9, 2 for the head, 1 for the memory, 5
+ * for the budget; then by the first step that is refused, with 3 or 4.
+ *
+ * 0: *spent is at least the budget and at most 5 more, *steps how many steps
+ * were taken, and the head and the memory are as those steps left them. A
+ * budget of 0 takes no step, also of a Stopped machine.
+ * 3 or 4: the same for the steps before the refused one: they stay, and
+ * *spent and *steps count them. *spent is below the budget.
+ * Any other number: the head and the memory are unchanged, and *spent and
+ * *steps are 0.
+ *
+ * A budget may be sliced: a run, and then a run of what is left of the budget,
+ * leave what one run of the whole budget leaves. The memory is not copied.
+ */
+uint8_t trnadulek_run(uint8_t *head, size_t head_len, uint8_t *memory, size_t memory_len, uint32_t budget, uint32_t *spent,
+                      uint32_t *steps);
+
+/*
+ * Loads a head: its state block.
+ *
+ * Refused, in this order, with 6, 7, 8, 9, 2. Then all of the state block is
+ * zero.
+ */
+uint8_t trnadulek_load_head(const uint8_t *head, size_t head_len, uint8_t state[TRNADULEK_STATE_SIZE]);
+
+/*
+ * Saves a state block as a head of exactly 23 bytes.
+ *
+ * Refused, in this order, with 9 for the codes of IME and mode, 6 for the
+ * head's length, 2 for F. Then the head is unchanged.
+ *
+ * A load of what a save wrote gives the state block back, and a save of what a
+ * load gave writes the same head.
+ */
+uint8_t trnadulek_save_head(const uint8_t state[TRNADULEK_STATE_SIZE], uint8_t *head, size_t head_len);
+
+/*
+ * Opens an image: its state block. Its memory is the image's own bytes from
+ * TRNADULEK_HEAD_SIZE to the end, and its head the bytes before them, so that
+ * an image can be stepped and run where it lies.
+ *
+ * Refused, in this order, with 6, 7, 8, 9, 2. Then all of the state block is
+ * zero.
+ */
+uint8_t trnadulek_open_image(const uint8_t *image, size_t image_len, uint8_t state[TRNADULEK_STATE_SIZE]);
+
+/*
+ * Saves a state block and a memory as an image of exactly 65,559 bytes.
+ *
+ * Refused, in this order, with 9 for the codes of IME and mode, 6 for the
+ * image's length, 1 for the memory's, 2 for F. Then the image is unchanged.
+ */
+uint8_t trnadulek_save_image(const uint8_t state[TRNADULEK_STATE_SIZE], const uint8_t *memory, size_t memory_len,
+                             uint8_t *image, size_t image_len);
+
+/*
+ * The opcode table: rows 0 to 255 for a first byte, 256 to 511 for the byte
+ * after $CB. The length counts all bytes of the instruction, the prefix too;
+ * a taken JR cc or JP cc costs 1 cycle more than the untaken one, CALL cc and
+ * RET cc 3 more. Undefined rows, row $CB and any row above 511 have 0 and 0.
+ */
+uint8_t trnadulek_length(uint32_t row);
+uint8_t trnadulek_untaken_cycles(uint32_t row);
+
+/*
+ * The sizes as the library has them: 0 a head, 1 a state block, 2 the memory,
+ * 3 an image, 4 the largest budget; 0 for any other number. A host that asks
+ * at its start knows that the header and the library belong together.
+ */
+uint32_t trnadulek_size(uint32_t which);
+
+/*
+ * The words for a number, in ASCII, with no zero byte after them.
+ *
+ * Answers how many bytes the words have, and 0 for a number that has none.
+ * They are written to the front of out if out is long enough for all of them;
+ * else nothing is written. Bytes of out beyond them are unchanged. No words
+ * are longer than TRNADULEK_LONGEST_WORDS.
+ */
+size_t trnadulek_words(uint8_t code, uint8_t *out, size_t out_len);
+
+#define TRNADULEK_LONGEST_WORDS 43u
+
+#ifdef __cplusplus
+}
+#endif
+
+/* ---- The registers by name: no more than a way to write a state block. ---- */
+
+enum trnadulek_ime { TRNADULEK_IME_OFF = 0, TRNADULEK_IME_ARMING = 1, TRNADULEK_IME_ON = 2 };
+
+enum trnadulek_mode {
+    TRNADULEK_MODE_RUNNING = 0,
+    TRNADULEK_MODE_REPEAT = 1,
+    TRNADULEK_MODE_HALTED = 2,
+    TRNADULEK_MODE_STOPPED = 3
+};
+
+struct trnadulek_cpu {
+    uint8_t a, f, b, c, d, e, h, l;
+    uint16_t sp, pc;
+    uint8_t ime;  /* of enum trnadulek_ime; the calls refuse any other with 9 */
+    uint8_t mode; /* of enum trnadulek_mode; the calls refuse any other with 9 */
+};
+
+static inline void trnadulek_state_of_cpu(const struct trnadulek_cpu *cpu, uint8_t state[TRNADULEK_STATE_SIZE])
+{
+    state[0] = cpu->a;
+    state[1] = cpu->f;
+    state[2] = cpu->b;
+    state[3] = cpu->c;
+    state[4] = cpu->d;
+    state[5] = cpu->e;
+    state[6] = cpu->h;
+    state[7] = cpu->l;
+    state[8] = (uint8_t)(cpu->sp >> 8);
+    state[9] = (uint8_t)(cpu->sp & 0xFFu);
+    state[10] = (uint8_t)(cpu->pc >> 8);
+    state[11] = (uint8_t)(cpu->pc & 0xFFu);
+    state[12] = cpu->ime;
+    state[13] = cpu->mode;
+}
+
+static inline void trnadulek_cpu_of_state(const uint8_t state[TRNADULEK_STATE_SIZE], struct trnadulek_cpu *cpu)
+{
+    cpu->a = state[0];
+    cpu->f = state[1];
+    cpu->b = state[2];
+    cpu->c = state[3];
+    cpu->d = state[4];
+    cpu->e = state[5];
+    cpu->h = state[6];
+    cpu->l = state[7];
+    cpu->sp = (uint16_t)((state[8] << 8) | state[9]);
+    cpu->pc = (uint16_t)((state[10] << 8) | state[11]);
+    cpu->ime = state[12];
+    cpu->mode = state[13];
+}
+
+/* trnadulek_load_head, trnadulek_save_head and trnadulek_open_image, by name. */
+
+static inline uint8_t trnadulek_load_cpu(const uint8_t *head, size_t head_len, struct trnadulek_cpu *cpu)
+{
+    uint8_t state[TRNADULEK_STATE_SIZE];
+    uint8_t code = trnadulek_load_head(head, head_len, state);
+    trnadulek_cpu_of_state(state, cpu);
+    return code;
+}
+
+static inline uint8_t trnadulek_save_cpu(const struct trnadulek_cpu *cpu, uint8_t *head, size_t head_len)
+{
+    uint8_t state[TRNADULEK_STATE_SIZE];
+    trnadulek_state_of_cpu(cpu, state);
+    return trnadulek_save_head(state, head, head_len);
+}
+
+static inline uint8_t trnadulek_open_cpu(const uint8_t *image, size_t image_len, struct trnadulek_cpu *cpu)
+{
+    uint8_t state[TRNADULEK_STATE_SIZE];
+    uint8_t code = trnadulek_open_image(image, image_len, state);
+    trnadulek_cpu_of_state(state, cpu);
+    return code;
+}
+
+#endif

@@ -1,0 +1,50 @@
+//! A proved core for the SM83.
+//!
+//! The host keeps the state, a plain [`Cpu`], and lends the memory, 65,536 bytes. Nothing is to be
+//! tested before a call: any state, memory, budget and image is either done or refused, with one of
+//! the numbers of [`Refusal`]. The core keeps nothing between two calls, so that any number of
+//! machines can run, in any threads.
+//!
+//! - [`step`] takes one step and [`run`] takes steps until a budget of cycles is met;
+//! - [`save`] and [`load`] write and read a head, the 23 bytes of a saved state;
+//! - [`save_image`] writes an image, a head and the memory after it, [`open`] and [`open_mut`] read
+//!   one where it lies;
+//! - [`length`] and [`untaken_cycles`] look an opcode up.
+//!
+//! The memory is never copied, except into an image that is saved.
+//!
+//! ```
+//! use trnadulek::{run, Cpu, MEMORY_SIZE};
+//!
+//! // 199 and 1 as decimal digits, two to a byte, least byte first, and the routine that adds them.
+//! let adding = [0xA7, 0x1A, 0x8E, 0x27, 0x22, 0x13, 0x05, 0x20, 0xF8, 0xC9];
+//! let mut memory = vec![0; MEMORY_SIZE];
+//! memory[0x0150..0x015A].copy_from_slice(&adding);
+//! memory[0xC000..0xC002].copy_from_slice(&[0x99, 0x01]);
+//! memory[0xC100..0xC102].copy_from_slice(&[0x01, 0x00]);
+//! memory[0xDFFE..0xE000].copy_from_slice(&[0x34, 0x12]);
+//! let cpu = Cpu { pc: 0x0150, h: 0xC0, d: 0xC1, sp: 0xDFFE, b: 2, ..Cpu::default() };
+//!
+//! let ran = run(cpu, &mut memory, 30)?;
+//!
+//! assert_eq!((ran.spent, ran.steps), (30, 16));
+//! assert_eq!(ran.cpu.pc, 0x1234);
+//! assert_eq!(memory[0xC000..0xC002], [0x00, 0x02]);
+//! # Ok::<(), trnadulek::Ended>(())
+//! ```
+
+#![no_std]
+#![warn(missing_docs)]
+
+mod cpu;
+mod link;
+mod refusal;
+mod saved;
+mod steps;
+mod table;
+
+pub use cpu::{Cpu, Ime, Mode};
+pub use refusal::Refusal;
+pub use saved::{load, open, open_mut, save, save_image, HEAD_SIZE, IMAGE_SIZE};
+pub use steps::{run, step, Ended, Ran, Stepped, LARGEST_BUDGET, LARGEST_EXCESS, MEMORY_SIZE};
+pub use table::{length, untaken_cycles};

@@ -1,0 +1,107 @@
+use core::error::Error;
+use core::fmt::{self, Display, Formatter};
+use core::str;
+
+use crate::link;
+
+/// Why something was refused. The core's own number for each is [`Refusal::number`]; its words are
+/// what is displayed.
+///
+/// ```
+/// use trnadulek::{load, Refusal};
+///
+/// let refusal = load(&[1, 2, 3]).unwrap_err();
+/// assert_eq!(refusal, Refusal::Length);
+/// assert_eq!(refusal.number(), 6);
+/// assert_eq!(refusal.to_string(), "head, image or output slice of wrong length");
+/// ```
+#[derive(Clone, Copy, PartialEq, Eq, Hash, Debug)]
+#[non_exhaustive]
+pub enum Refusal {
+    /// 1: the memory is not 65,536 bytes long.
+    MemoryLength,
+    /// 2: one of the low four bits of F is set.
+    FlagBits,
+    /// 3: the mode is Stopped when a step is due.
+    Stopped,
+    /// 4: the step would run an undefined opcode.
+    UndefinedOpcode,
+    /// 5: the budget is above 1,048,576.
+    Budget,
+    /// 6: a head or an image has the wrong length, or what it is to be saved to has.
+    Length,
+    /// 7: the version byte is not 1.
+    Version,
+    /// 8: a length in the head is not 14, or not 65,536.
+    BlockLength,
+    /// 9: the code of IME is above 2, or the code of the mode above 3.
+    StateCode,
+}
+
+/// No words are longer.
+const LONGEST_WORDS: usize = 43;
+
+impl Refusal {
+    /// Every refusal, in the order of the numbers.
+    pub const ALL: [Refusal; 9] = [
+        Refusal::MemoryLength,
+        Refusal::FlagBits,
+        Refusal::Stopped,
+        Refusal::UndefinedOpcode,
+        Refusal::Budget,
+        Refusal::Length,
+        Refusal::Version,
+        Refusal::BlockLength,
+        Refusal::StateCode,
+    ];
+
+    /// The number that the core answers for it.
+    pub const fn number(self) -> u8 {
+        match self {
+            Refusal::MemoryLength => 1,
+            Refusal::FlagBits => 2,
+            Refusal::Stopped => 3,
+            Refusal::UndefinedOpcode => 4,
+            Refusal::Budget => 5,
+            Refusal::Length => 6,
+            Refusal::Version => 7,
+            Refusal::BlockLength => 8,
+            Refusal::StateCode => 9,
+        }
+    }
+
+    /// The refusal of a number, if there is one.
+    ///
+    /// ```
+    /// use trnadulek::Refusal;
+    ///
+    /// assert_eq!(Refusal::from_number(4), Some(Refusal::UndefinedOpcode));
+    /// assert_eq!(Refusal::from_number(0), None);
+    /// ```
+    pub fn from_number(number: u8) -> Option<Self> {
+        Self::ALL
+            .into_iter()
+            .find(|refusal| refusal.number() == number)
+    }
+
+    /// What an answer of the core stands for: 0 is done.
+    pub(crate) fn judge(code: u8) -> Result<(), Refusal> {
+        if code == 0 {
+            return Ok(());
+        }
+        Err(Self::from_number(code).expect("a library of this version answers no other number"))
+    }
+}
+
+impl Display for Refusal {
+    fn fmt(&self, out: &mut Formatter<'_>) -> fmt::Result {
+        let mut words = [0; LONGEST_WORDS];
+        let length = link::words(self.number(), &mut words);
+        let written = words
+            .get(..length)
+            .and_then(|words| str::from_utf8(words).ok());
+        out.pad(written.ok_or(fmt::Error)?)
+    }
+}
+
+impl Error for Refusal {}

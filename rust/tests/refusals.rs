@@ -1,0 +1,39 @@
+//! The numbers of document 01, "Refusal numbers", and its words.
+
+use std::error::Error;
+use trnadulek::Refusal;
+
+#[test]
+fn every_refusal_has_its_number_and_words() {
+    let table = [
+        (1, "memory length is not 65,536"),
+        (2, "low four bits of F are not 0"),
+        (3, "mode is Stopped when a step is due"),
+        (4, "the step would run an undefined opcode"),
+        (5, "budget above 1,048,576"),
+        (6, "head, image or output slice of wrong length"),
+        (7, "version byte is not 1"),
+        (8, "a block length is not 14, or not 65,536"),
+        (9, "IME code above 2, or mode code above 3"),
+    ];
+    let told = Refusal::ALL.map(|refusal| (refusal.number(), refusal.to_string()));
+    assert_eq!(
+        told,
+        table.map(|(number, words)| (number, words.to_string()))
+    );
+}
+
+#[test]
+fn numbers_and_refusals_there_and_back() {
+    for number in 0..=255 {
+        let refusal = Refusal::from_number(number);
+        assert_eq!(refusal.is_some(), (1..=9).contains(&number));
+        assert!(refusal.is_none_or(|refusal| refusal.number() == number));
+    }
+}
+
+#[test]
+fn a_refusal_is_an_error() {
+    let error: Box<dyn Error> = Refusal::Version.into();
+    assert_eq!(error.to_string(), "version byte is not 1");
+}
