@@ -1,0 +1,163 @@
+"""The wrong edits that have a name: what is easily got wrong, what the instructions' entries say, and the cheats."""
+from .changes import Change
+
+STEP = "machine/specs/Step.antt"
+RUN = "machine/src/run.rt"
+
+EASY = [
+    Change(
+        "RLCA and its like set Z by the result",
+        ("arith/src/rotates.rt", "flags::pack(false, false, false, left_over(op, a))", "flags::pack(value == 0, false, false, left_over(op, a))"),
+    ),
+    Change(
+        "ADD SP sets Z",
+        ("arith/src/words.rt", "flags::pack(false, false, h, c)", "flags::pack(sp == 0, false, h, c)"),
+    ),
+    Change(
+        "DAA after a subtraction tests the digits",
+        ("arith/src/decimal.rt", "(adjustment(h, c) as u16)", "(adjustment(h | (0x09 < a % 16), c | (0x99 < a)) as u16)"),
+    ),
+    Change("EI is On at once", ("machine/src/modes.rt", "Ime::Off => Ime::Arming,", "Ime::Off => Ime::On,")),
+    Change(
+        "in Repeat PC is moved back after the instruction",
+        (
+            STEP,
+            "-- rule 3; refusal 4",
+            "unfoldable pub movedBack : Mode → Done → Done\n"
+            "movedBack Running d = d\n"
+            "movedBack Repeat d = record { cpu = withPc (back 1 (d .cpu .pc)) (d .cpu); extra = d .extra }\n"
+            "movedBack Halted d = d\n"
+            "movedBack Stopped d = d\n\n"
+            "-- rule 3; refusal 4",
+        ),
+        (STEP, "{further}", "{further, back}"),
+        (
+            STEP,
+            "finishedOf (shapeOf i .cycles) (s .ime) (execOf i (readyOf (further (shapeOf i .more) rest) s) m)",
+            "record { out = endOf (shapeOf i .cycles) (s .ime) (movedBack (s .mode) (execOf i (readyOf (further (shapeOf i .more)"
+            " (further 1 (s .pc))) s) m .out)); mem = execOf i (readyOf (further (shapeOf i .more) (further 1 (s .pc))) s) m .mem }",
+        ),
+    ),
+    Change(
+        "IF is cleared after the push",
+        (
+            "machine/specs/Interrupts.antt",
+            "dispatchOf k s m = pushedOf (s .pc) (vectoredOf k s) (stored m 0xFF0F (resetOf k (byteAt m 0xFF0F)))",
+            "dispatchOf k s m = record { out = pushedOf (s .pc) (vectoredOf k s) m .out; mem = stored (pushedOf (s .pc) (vectoredOf k s) m .mem)"
+            " 0xFF0F (resetOf k (byteAt (pushedOf (s .pc) (vectoredOf k s) m .mem) 0xFF0F)) }",
+        ),
+    ),
+]
+
+INSTRUCTIONS = [
+    Change("ADC's H leaves the carry out", ("arith/src/bytes.rt", "let h = half_carry(a, b, k);", "let h = half_carry(a, b, false);")),
+    Change(
+        "SBC does not take the borrow away",
+        ("arith/src/bytes.rt", "let taken = (b as u16) + (one_if(k) as u16);", "let taken = (b as u16) + (one_if(false) as u16);"),
+    ),
+    Change(
+        "INC sets C",
+        (
+            "arith/src/bytes.rt",
+            "flags::pack(value == 0, false, h, flags::carry(f))",
+            "flags::pack(value == 0, false, h, flags::carry(f) | (value == 0))",
+        ),
+    ),
+    Change(
+        "BIT sets C",
+        (
+            "arith/src/bytes.rt",
+            "flags::pack(!bit(k, v), false, true, flags::carry(f))",
+            "flags::pack(!bit(k, v), false, true, flags::carry(v))",
+        ),
+    ),
+    Change("JR costs 2 cycles", ("insn/src/rows.rt", "given(Insn::Jr(n8), 1, 3)", "given(Insn::Jr(n8), 1, 2)")),
+    Change("a taken JR cc costs 2 cycles", ("machine/src/jumps.rt", "extra: 1,", "extra: 0,")),
+    Change(
+        "CALL pushes the address before",
+        ("machine/src/stack.rt", "let pc = self.pc;", "let pc = words::back_by(3, self.pc);"),
+    ),
+    Change(
+        "POP AF keeps the low bits",
+        ("machine/src/pairs.rt", "f: words::low(w) / 16 * 16,", "f: words::low(w) / 1 * 1,"),
+    ),
+    Change(
+        "PUSH stores the low byte first",
+        (
+            "machine/specs/Stack.antt",
+            "stored (stored m (back 1 (s .sp)) (highOf w)) (back 2 (s .sp)) (lowOf w)",
+            "stored (stored m (back 1 (s .sp)) (lowOf w)) (back 2 (s .sp)) (highOf w)",
+        ),
+    ),
+    Change(
+        "LD [n16],SP at $FFFF does not wrap",
+        ("machine/specs/Memory.antt", "use Prim.Native.Nat.{ℕ, _%_}", "use Prim.Native.Nat.{ℕ, _+_, _%_}"),
+        (
+            "machine/specs/Memory.antt",
+            "stored (stored m at (lowOf w)) (further 1 at) (highOf w)",
+            "stored (stored m at (lowOf w)) (at + 1) (highOf w)",
+        ),
+    ),
+    Change(
+        "refusal 4 moves PC",
+        (STEP, "definedStep false i rest s m = refusing 4 s m", "definedStep false i rest s m = refusing 4 (withPc rest s) m"),
+    ),
+    Change(
+        "refusal 4 comes before refusal 3",
+        (
+            STEP,
+            "unfoldable pub stoppedStep : Bool",
+            "unfoldable pub firstOf : Bool → ℕ\nfirstOf true = 3\nfirstOf false = 4\n\nunfoldable pub stoppedStep : Bool",
+        ),
+        (
+            STEP,
+            "stoppedStep true s m = refusing 3 s m",
+            "stoppedStep true s m = refusing (firstOf (ltb 0 (shapeOf (insnAt (s .pc) (further 1 (s .pc)) m) .cycles))) s m",
+        ),
+    ),
+    Change(
+        "the numbers of refusals 3 and 4 are exchanged",
+        ("machine/src/step.rt", "self.refuse(3)", "self.refuse(4) "),
+        ("machine/src/step.rt", "self.refuse(4);", "self.refuse(3);"),
+    ),
+]
+
+CHEATS = [
+    Change(
+        "a step refuses every memory",
+        (
+            RUN,
+            "    if mem.len() != 65536 {\n        return Stepped {",
+            "    if mem.len() != 0 {\n        return Stepped {",
+        ),
+    ),
+    Change(
+        "a run refuses every memory",
+        (RUN, "    if mem.len() != 65536 {\n        return Ran {", "    if mem.len() != 0 {\n        return Ran {"),
+    ),
+    Change("a step always says that it is done", (RUN, "code: r.code,", "code: 0,")),
+    Change("an addition has a fixed answer", ("arith/src/bytes.rt", "let value = (sum % 256) as u8;", "let value = (0 % 256) as u8;")),
+    Change("memory is never touched", ("machine/src/memory.rt", "mem[at as usize] = v;", "mem[at as usize] = mem[at as usize];")),
+    Change(
+        "memory is never touched, by the definition",
+        ("machine/specs/Memory.antt", "stored m at v = set m at v", "stored m at v = set m at (byteAt m at)"),
+    ),
+    Change("a step does the work of a whole run", (RUN, "turns(cpu, mem, 1)", "turns(cpu, mem, 1048576)")),
+    Change("the cycles of a step are invented", (RUN, "cycles: (r.spent % 256) as u8,", "cycles: (r.steps % 256) as u8,")),
+    Change("the cycles of a run are invented", (RUN, "    Ran {\n        code: 0,\n        spent,", "    Ran {\n        code: 0,\n        spent: budget,")),
+    Change(
+        "the steps of a run are invented",
+        (RUN, "    Ran {\n        code: 0,\n        spent,\n        steps,", "    Ran {\n        code: 0,\n        spent,\n        steps: spent,"),
+    ),
+    Change(
+        "a refused step is counted in the cycles",
+        ("machine/specs/Run.antt", "(λ code. ending code spent steps s m))", "(λ code. ending code (spent + 1) steps s m))"),
+    ),
+    Change(
+        "a refused step is counted in the steps",
+        ("machine/specs/Run.antt", "(λ code. ending code spent steps s m))", "(λ code. ending code spent (steps + 1) s m))"),
+    ),
+    Change("the step count is off by one", (RUN, "let mut steps: u32 = 0;", "let mut steps: u32 = 1;")),
+]
+
+GROUPS = {"errors that come easily": EASY, "instructions and refusals": INSTRUCTIONS, "cheats": CHEATS}
