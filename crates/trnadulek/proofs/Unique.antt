@@ -33,11 +33,11 @@ same : {A : Type 0} {it r r′ : A} → r ≡ it → r′ ≡ it → r ≡ r′
 same p q = p ∙ sym q
 
 -- a step: the answer, the head, the memory, the cycles
-pub step-unique : (κs : Lfts 3) (a : Dens κs step-kinds.ps) (r r′ : resT step-kinds.r κs .Denot)
+pub trnadulek-step-unique : (κs : Lfts 3) (a : Dens κs step-kinds.ps) (r r′ : resT step-kinds.r κs .Denot)
     (e e′ : AtExit (endedOf 3 step-kinds.ps step-kinds.r) κs)
     → step-reads.Post κs a r e → step-reads.Post κs a r′ e′
     → (r ≡ r′) × ((now (e .0) ≡ now (e′ .0)) × ((now (e .1 .0) ≡ now (e′ .1 .0)) × (now (e .1 .1 .0) ≡ now (e′ .1 .1 .0))))
-step-unique κs a r r′ e e′ p q = (
+trnadulek-step-unique κs a r r′ e e′ p q = (
   same (p .answers) (q .answers),
   (
     same (p .leaves-head) (q .leaves-head),
@@ -46,11 +46,11 @@ step-unique κs a r r′ e e′ p q = (
 )
 
 -- a run: the answer, the head, the memory, the cycles spent and the steps taken, which stand after the budget
-pub run-unique : (κs : Lfts 4) (a : Dens κs run-kinds.ps) (r r′ : resT run-kinds.r κs .Denot)
+pub trnadulek-run-unique : (κs : Lfts 4) (a : Dens κs run-kinds.ps) (r r′ : resT run-kinds.r κs .Denot)
     (e e′ : AtExit (endedOf 4 run-kinds.ps run-kinds.r) κs)
     → run-reads.Post κs a r e → run-reads.Post κs a r′ e′
     → (r ≡ r′) × ((now (e .0) ≡ now (e′ .0)) × ((now (e .1 .0) ≡ now (e′ .1 .0)) × ((now (e .1 .1 .1 .0) ≡ now (e′ .1 .1 .1 .0)) × (now (e .1 .1 .1 .1 .0) ≡ now (e′ .1 .1 .1 .1 .0)))))
-run-unique κs a r r′ e e′ p q = (
+trnadulek-run-unique κs a r r′ e e′ p q = (
   same (p .answers) (q .answers),
   (
     same (p .leaves-head) (q .leaves-head),
@@ -62,51 +62,51 @@ run-unique κs a r r′ e e′ p q = (
 )
 
 -- a load, a save, words: the answer, and the block, head, image or slice that is written
-pub load-head-unique : (κs : Lfts 2) (a : Dens κs load-head-kinds.ps) (r r′ : resT load-head-kinds.r κs .Denot)
+pub trnadulek-load-head-unique : (κs : Lfts 2) (a : Dens κs load-head-kinds.ps) (r r′ : resT load-head-kinds.r κs .Denot)
     (e e′ : AtExit (endedOf 2 load-head-kinds.ps load-head-kinds.r) κs)
     → load-head-reads.Post κs a r e → load-head-reads.Post κs a r′ e′
     → (r ≡ r′) × (now (e .1 .0) ≡ now (e′ .1 .0))
-load-head-unique κs a r r′ e e′ p q = (same (p .answers) (q .answers), same (p .leaves) (q .leaves))
+trnadulek-load-head-unique κs a r r′ e e′ p q = (same (p .answers) (q .answers), same (p .leaves) (q .leaves))
 
-pub save-head-unique : (κs : Lfts 2) (a : Dens κs save-head-kinds.ps) (r r′ : resT save-head-kinds.r κs .Denot)
+pub trnadulek-save-head-unique : (κs : Lfts 2) (a : Dens κs save-head-kinds.ps) (r r′ : resT save-head-kinds.r κs .Denot)
     (e e′ : AtExit (endedOf 2 save-head-kinds.ps save-head-kinds.r) κs)
     → save-head-reads.Post κs a r e → save-head-reads.Post κs a r′ e′
     → (r ≡ r′) × (now (e .1 .0) ≡ now (e′ .1 .0))
-save-head-unique κs a r r′ e e′ p q = (same (p .answers) (q .answers), same (p .leaves) (q .leaves))
+trnadulek-save-head-unique κs a r r′ e e′ p q = (same (p .answers) (q .answers), same (p .leaves) (q .leaves))
 
-pub open-image-unique : (κs : Lfts 2) (a : Dens κs open-image-kinds.ps) (r r′ : resT open-image-kinds.r κs .Denot)
+pub trnadulek-open-image-unique : (κs : Lfts 2) (a : Dens κs open-image-kinds.ps) (r r′ : resT open-image-kinds.r κs .Denot)
     (e e′ : AtExit (endedOf 2 open-image-kinds.ps open-image-kinds.r) κs)
     → open-image-reads.Post κs a r e → open-image-reads.Post κs a r′ e′
     → (r ≡ r′) × (now (e .1 .0) ≡ now (e′ .1 .0))
-open-image-unique κs a r r′ e e′ p q = (same (p .answers) (q .answers), same (p .leaves) (q .leaves))
+trnadulek-open-image-unique κs a r r′ e e′ p q = (same (p .answers) (q .answers), same (p .leaves) (q .leaves))
 
-pub save-image-unique : (κs : Lfts 3) (a : Dens κs save-image-kinds.ps) (r r′ : resT save-image-kinds.r κs .Denot)
+pub trnadulek-save-image-unique : (κs : Lfts 3) (a : Dens κs save-image-kinds.ps) (r r′ : resT save-image-kinds.r κs .Denot)
     (e e′ : AtExit (endedOf 3 save-image-kinds.ps save-image-kinds.r) κs)
     → save-image-reads.Post κs a r e → save-image-reads.Post κs a r′ e′
     → (r ≡ r′) × (now (e .1 .1 .0) ≡ now (e′ .1 .1 .0))
-save-image-unique κs a r r′ e e′ p q = (same (p .answers) (q .answers), same (p .leaves) (q .leaves))
+trnadulek-save-image-unique κs a r r′ e e′ p q = (same (p .answers) (q .answers), same (p .leaves) (q .leaves))
 
-pub words-unique : (κs : Lfts 1) (a : Dens κs words-kinds.ps) (r r′ : resT words-kinds.r κs .Denot)
+pub trnadulek-words-unique : (κs : Lfts 1) (a : Dens κs words-kinds.ps) (r r′ : resT words-kinds.r κs .Denot)
     (e e′ : AtExit (endedOf 1 words-kinds.ps words-kinds.r) κs)
     → words-reads.Post κs a r e → words-reads.Post κs a r′ e′
     → (r ≡ r′) × (now (e .1 .0) ≡ now (e′ .1 .0))
-words-unique κs a r r′ e e′ p q = (same (p .answers) (q .answers), same (p .leaves) (q .leaves))
+trnadulek-words-unique κs a r r′ e e′ p q = (same (p .answers) (q .answers), same (p .leaves) (q .leaves))
 
 -- a question: the answer
-pub length-unique : (κs : Lfts 0) (a : Dens κs length-kinds.ps) (r r′ : resT length-kinds.r κs .Denot)
+pub trnadulek-length-unique : (κs : Lfts 0) (a : Dens κs length-kinds.ps) (r r′ : resT length-kinds.r κs .Denot)
     (e e′ : AtExit (endedOf 0 length-kinds.ps length-kinds.r) κs)
     → length-reads.Post κs a r e → length-reads.Post κs a r′ e′
     → r ≡ r′
-length-unique κs a r r′ e e′ p q = same p q
+trnadulek-length-unique κs a r r′ e e′ p q = same p q
 
-pub untaken-cycles-unique : (κs : Lfts 0) (a : Dens κs untaken-cycles-kinds.ps) (r r′ : resT untaken-cycles-kinds.r κs .Denot)
+pub trnadulek-untaken-cycles-unique : (κs : Lfts 0) (a : Dens κs untaken-cycles-kinds.ps) (r r′ : resT untaken-cycles-kinds.r κs .Denot)
     (e e′ : AtExit (endedOf 0 untaken-cycles-kinds.ps untaken-cycles-kinds.r) κs)
     → untaken-cycles-reads.Post κs a r e → untaken-cycles-reads.Post κs a r′ e′
     → r ≡ r′
-untaken-cycles-unique κs a r r′ e e′ p q = same p q
+trnadulek-untaken-cycles-unique κs a r r′ e e′ p q = same p q
 
-pub size-unique : (κs : Lfts 0) (a : Dens κs size-kinds.ps) (r r′ : resT size-kinds.r κs .Denot)
+pub trnadulek-size-unique : (κs : Lfts 0) (a : Dens κs size-kinds.ps) (r r′ : resT size-kinds.r κs .Denot)
     (e e′ : AtExit (endedOf 0 size-kinds.ps size-kinds.r) κs)
     → size-reads.Post κs a r e → size-reads.Post κs a r′ e′
     → r ≡ r′
-size-unique κs a r r′ e e′ p q = same p q
+trnadulek-size-unique κs a r r′ e e′ p q = same p q
