@@ -1,4 +1,5 @@
 -- Laws that belong to no one function.
 pub mod Width
 pub mod Laws
+pub mod Carries
 pub mod Unique
