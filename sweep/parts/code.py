@@ -8,42 +8,34 @@ from .numbers import NUMBER, another, off_by_one
 TURNED = {"<": "<=", "<=": "<", ">": ">=", ">=": ">", "==": "!=", "!=": "=="}
 
 
-def arguments(text, at):
-    """The arguments of the call whose bracket opens at a place, each as (place, text)."""
-    inside = source.Reading(text, at, len(text)).block("(", ")")
-    found, place = [], inside.at
-    for part in re.split(r"(,)", text[inside.at : inside.end]):
-        if part == ",":
-            place += 1
-            continue
-        if found and text[found[-1][0] : place].count("(") > text[found[-1][0] : place].count(")"):
-            found[-1] = (found[-1][0], text[found[-1][0] : place + len(part)])
-        else:
-            found.append((place + len(part) - len(part.lstrip()), part.strip()))
-        place += len(part)
-    return [(place, part.rstrip()) for place, part in found if part.strip()]
+def parts(text, start, end, divider=","):
+    """What a divider parts from each other, where brackets hold it back, each as (place, text)."""
+    found, began, depth = [], start, 0
+    for at in range(start, end + 1):
+        letter = text[at] if at < end else divider
+        depth += {"(": 1, "{": 1, "[": 1, ")": -1, "}": -1, "]": -1}.get(letter, 0)
+        if letter == divider and depth == 0:
+            part = text[began:at]
+            if part.strip():
+                found.append((began + len(part) - len(part.lstrip()), part.strip()))
+            began = at + 1
+    return found
 
 
 def arms(text, start, end):
     """The arms of the matches in a body: what stands after each arrow, as (place, text), match by match."""
     found = []
     for match in re.compile(r"\bmatch [^{;]*\{").finditer(text, start, end):
-        reading = source.Reading(text, match.end() - 1, end).block("{", "}")
+        inside = source.Reading(text, match.end() - 1, end).block("{", "}")
         here = []
-        while reading.take(r"[^=]*=>\s*"):
-            began = reading.at
-            if reading.text[began] == "{":
-                reading.block("{", "}")
+        while inside.take(r"[^=]*=>\s*"):
+            began = inside.at
+            if text[began] == "{":
+                inside.block("{", "}")
             else:
-                depth = 0
-                while reading.at < reading.end:
-                    letter = reading.text[reading.at]
-                    depth += {"(": 1, "{": 1, "[": 1, ")": -1, "}": -1, "]": -1}.get(letter, 0)
-                    if letter == "," and depth == 0:
-                        break
-                    reading.at += 1
-            here.append((began, text[began : reading.at].rstrip()))
-            reading.take(",")
+                inside.at = began + len(parts(text, began, inside.end)[0][1])
+            here.append((began, text[began : inside.at]))
+            inside.take(",")
         found.append(here)
     return found
 
@@ -59,8 +51,8 @@ class Places:
         self.name = function.name()
 
     def edit(self, kind, at, old, new):
-        crate = self.function.file.parts[-3 :]
-        return Edit("/".join(crate), self.name, kind, at, old, new, self.text.count("\n", 0, at) + 1)
+        file = "/".join(self.function.file.parts[-3:])
+        return Edit(file, self.name, kind, at, old, new, self.text.count("\n", 0, at) + 1)
 
     def tokens(self, pattern):
         return re.compile(pattern).finditer(self.text, self.start, self.end)
@@ -85,7 +77,8 @@ class Places:
 
     def flags(self):
         for call in self.tokens(r"flags::pack(?=\()|\bpack(?=\()"):
-            for at, argument in arguments(self.text, call.end()):
+            inside = source.Reading(self.text, call.end(), self.end).block("(", ")")
+            for at, argument in parts(self.text, inside.at, inside.end):
                 new = "true" if argument == "false" else "false"
                 yield self.edit("flag dropped" if new == "false" else "flag set", at, argument, new)
 
