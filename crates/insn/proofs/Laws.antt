@@ -8,7 +8,7 @@ use mathlib.Core.Logic.{_⊎_, inl, inr, ⊎-elim}
 use native.Mathlib.Omega.{arith}
 use lib.Dec.{eqb}
 use borrow.Author.Tests.{eqb-true, le-ltb}
-use Rattle.insn.specs.Grid.{grid, decodeOf, prefixedOf}
+use Rattle.insn.specs.Grid.{grid, operandOf, decodeOf, prefixedOf}
 use Rattle.insn.specs.Shapes.{Shape, shapes, accessOf, carriedOf, shapeOf}
 use Rattle.insn.specs.Table.{rows, rowOf, lengthOf, untakenOf}
 use Rattle.insn.specs.declared.Cond.{Cond}
@@ -18,7 +18,7 @@ use Rattle.insn.specs.declared.Insn.{Insn}
 use Rattle.insn.specs.declared.Insn.the-variants.{Nop, StoreSp, Stop, Jr, JrIf, LoadPair, AddHl, StoreAt, LoadAt, IncPair, DecPair, Inc, Dec, Load, RotateA, Daa, Cpl, Scf, Ccf, Halt, Math, RetIf, StoreHigh, AddSp, LoadHigh, LoadHlSp, Pop, Ret, Reti, JumpHl, LoadSpHl, JumpIf, StoreHighC, StoreTo, LoadHighC, LoadFrom, Jump, Rotate, Bit, Res, Set, Di, Ei, CallIf, Push, Call, Rst, Undefined}
 use Rattle.insn.proofs.Entries.{agree}
 
-access-most : (o : Operand) → accessOf o ≤ 1
+pub access-most : (o : Operand) → accessOf o ≤ 1
 unfolding accessOf
 access-most (Reg r) = omega arith
 access-most AtHl = omega arith
@@ -41,15 +41,15 @@ fair (StoreSp w) = inr (omega arith)
 fair Stop = inr (omega arith)
 fair (Jr n) = inr (omega arith)
 fair (JrIf cc n) = inr (omega arith)
-fair (LoadPair rp w) = inr (omega arith)
+fair (LoadPair w rp) = inr (omega arith)
 fair (AddHl rp) = inr (omega arith)
 fair (StoreAt p) = inr (omega arith)
 fair (LoadAt p) = inr (omega arith)
 fair (IncPair rp) = inr (omega arith)
 fair (DecPair rp) = inr (omega arith)
-fair (Inc o) = inr (omega (arith, access-most o))
-fair (Dec o) = inr (omega (arith, access-most o))
-fair (Load d s) = inr (omega (arith, access-most d, access-most s, carried-most s))
+fair (Inc p) = inr (omega (arith, access-most (operandOf p)))
+fair (Dec p) = inr (omega (arith, access-most (operandOf p)))
+fair (Load p s) = inr (omega (arith, access-most (operandOf p), access-most s, carried-most s))
 fair (RotateA r) = inr (omega arith)
 fair Daa = inr (omega arith)
 fair Cpl = inr (omega arith)
@@ -73,10 +73,10 @@ fair (StoreTo w) = inr (omega arith)
 fair LoadHighC = inr (omega arith)
 fair (LoadFrom w) = inr (omega arith)
 fair (Jump w) = inr (omega arith)
-fair (Rotate r o) = inr (omega (arith, access-most o))
-fair (Bit k o) = inr (omega (arith, access-most o))
-fair (Res k o) = inr (omega (arith, access-most o))
-fair (Set k o) = inr (omega (arith, access-most o))
+fair (Rotate r p) = inr (omega (arith, access-most (operandOf p)))
+fair (Bit k p) = inr (omega (arith, access-most (operandOf p)))
+fair (Res k p) = inr (omega (arith, access-most (operandOf p)))
+fair (Set k p) = inr (omega (arith, access-most (operandOf p)))
 fair Di = inr (omega arith)
 fair Ei = inr (omega arith)
 fair (CallIf cc w) = inr (omega arith)

@@ -6,8 +6,9 @@ use mathlib.Core.List.{List, [], _∷_}
 use native.Mathlib.Omega.{arith}
 use lib.Dec.{eqb}
 use lib.ListN.{getD}
-use Rattle.insn.specs.Grid.{rAt, nth, prefixedAt, prefixedOf, x0Of, haltOr, x1Of, x2Of, x3Of, gridOf, decodeOf}
-use Rattle.insn.specs.declared.Register.the-variants as reg
+use Rattle.insn.specs.Grid.{rAt, operandOf, nth, prefixedAt, prefixedOf, x0Of, haltOr, x1Of, x2Of, x3Of, gridOf, decodeOf}
+use Rattle.insn.specs.declared.Place.{Place}
+use Rattle.insn.specs.declared.Place.the-variants as place
 use Rattle.insn.specs.declared.Operand.{Operand}
 use Rattle.insn.specs.declared.Operand.the-variants.{Reg, AtHl, Const}
 use Rattle.insn.specs.declared.Insn.{Insn}
@@ -24,15 +25,15 @@ Sound (StoreSp w) = w < 65536
 Sound Stop = Unit {0}
 Sound (Jr n) = n < 256
 Sound (JrIf cc n) = n < 256
-Sound (LoadPair rp w) = w < 65536
+Sound (LoadPair w rp) = w < 65536
 Sound (AddHl rp) = Unit {0}
 Sound (StoreAt p) = Unit {0}
 Sound (LoadAt p) = Unit {0}
 Sound (IncPair rp) = Unit {0}
 Sound (DecPair rp) = Unit {0}
-Sound (Inc o) = SoundOperand o
-Sound (Dec o) = SoundOperand o
-Sound (Load d s) = SoundOperand d × SoundOperand s
+Sound (Inc p) = Unit {0}
+Sound (Dec p) = Unit {0}
+Sound (Load p s) = SoundOperand s
 Sound (RotateA r) = Unit {0}
 Sound Daa = Unit {0}
 Sound Cpl = Unit {0}
@@ -56,10 +57,10 @@ Sound (StoreTo w) = w < 65536
 Sound LoadHighC = Unit {0}
 Sound (LoadFrom w) = w < 65536
 Sound (Jump w) = w < 65536
-Sound (Rotate r o) = SoundOperand o
-Sound (Bit k o) = (k < 8) × SoundOperand o
-Sound (Res k o) = (k < 8) × SoundOperand o
-Sound (Set k o) = (k < 8) × SoundOperand o
+Sound (Rotate r p) = Unit {0}
+Sound (Bit k p) = k < 8
+Sound (Res k p) = k < 8
+Sound (Set k p) = k < 8
 Sound Di = Unit {0}
 Sound Ei = Unit {0}
 Sound (CallIf cc w) = w < 65536
@@ -87,15 +88,21 @@ nth-sound : (line : List Insn) → Each Sound line → (k : ℕ) → Sound (nth 
 unfolding nth
 nth-sound line e k = each Sound line Undefined tt e k
 
-r-sound : (k : ℕ) → SoundOperand (rAt k)
-unfolding rAt
-r-sound k = each SoundOperand (Reg reg.B ∷ Reg reg.C ∷ Reg reg.D ∷ Reg reg.E ∷ Reg reg.H ∷ Reg reg.L ∷ AtHl ∷ Reg reg.A ∷ []) AtHl tt (omega arith) k
+-- a place carries no constant
+pub place-sound : (p : Place) → SoundOperand (operandOf p)
+unfolding operandOf
+place-sound place.B = tt
+place-sound place.C = tt
+place-sound place.D = tt
+place-sound place.E = tt
+place-sound place.H = tt
+place-sound place.L = tt
+place-sound place.AtHl = tt
+place-sound place.A = tt
 
 prefixed-at : (x y z : ℕ) → y < 8 → Sound (prefixedAt x y z)
 unfolding prefixedAt
-prefixed-at x y z h =
-    let o = r-sound z in
-    nth-sound _ (o ▸ (h, o) ▸ (h, o) ▸ (h, o) ▸ tt) x
+prefixed-at x y z h = nth-sound _ (tt ▸ h ▸ h ▸ h ▸ tt) x
 
 pub prefixed-sound : (n : ℕ) → Sound (prefixedOf n)
 unfolding prefixedOf
@@ -110,9 +117,9 @@ module _ (y z p q n w : ℕ) (small : y < 8) (byte : n < 256) (word : w < 65536)
       ▸ nth-sound _ (omega arith) q
       ▸ nth-sound _ (omega arith) q
       ▸ nth-sound _ (omega arith) q
-      ▸ r-sound y
-      ▸ r-sound y
-      ▸ (r-sound y, byte)
+      ▸ tt
+      ▸ tt
+      ▸ byte
       ▸ nth-sound _ (omega arith) y
       ▸ tt)
       z
@@ -136,13 +143,13 @@ x1-sound : (op y z : ℕ) → Sound (x1Of op y z)
 unfolding x1Of haltOr
 x1-sound op y z = go (eqb op 0x76)
   where
-    go : (b : Bool) → Sound (haltOr b (Load (rAt y) (rAt z)))
+    go : (b : Bool) → Sound (haltOr b (Load (rAt y) (operandOf (rAt z))))
     go true = tt
-    go false = (r-sound y, r-sound z)
+    go false = place-sound (rAt z)
 
 x2-sound : (y z : ℕ) → Sound (x2Of y z)
 unfolding x2Of
-x2-sound y z = r-sound z
+x2-sound y z = place-sound (rAt z)
 
 pub decode-sound : (op n w : ℕ) → n < 256 → w < 65536 → Sound (decodeOf op n w)
 unfolding decodeOf gridOf

@@ -14,6 +14,8 @@ use Rattle.insn.specs.declared.Register.{Register}
 use Rattle.insn.specs.declared.Register.the-variants as reg
 use Rattle.insn.specs.declared.Operand.{Operand}
 use Rattle.insn.specs.declared.Operand.the-variants.{Reg, AtHl, Const}
+use Rattle.insn.specs.declared.Place.{Place}
+use Rattle.insn.specs.declared.Place.the-variants as place
 use Rattle.insn.specs.declared.Pair.{Pair}
 use Rattle.insn.specs.declared.Pair.the-variants as pair
 use Rattle.insn.specs.declared.Stacked.{Stacked}
@@ -26,8 +28,19 @@ use Rattle.insn.specs.declared.Insn.{Insn}
 use Rattle.insn.specs.declared.Insn.the-variants.{Nop, StoreSp, Stop, Jr, JrIf, LoadPair, AddHl, StoreAt, LoadAt, IncPair, DecPair, Inc, Dec, Load, RotateA, Daa, Cpl, Scf, Ccf, Halt, Math, RetIf, StoreHigh, AddSp, LoadHigh, LoadHlSp, Pop, Ret, Reti, JumpHl, LoadSpHl, JumpIf, StoreHighC, StoreTo, LoadHighC, LoadFrom, Jump, Rotate, Bit, Res, Set, Di, Ei, CallIf, Push, Call, Rst, Undefined}
 
 -- r is B C D E H L [HL] A
-unfoldable pub rAt : ℕ → Operand
-rAt k = getD (Reg reg.B ∷ Reg reg.C ∷ Reg reg.D ∷ Reg reg.E ∷ Reg reg.H ∷ Reg reg.L ∷ AtHl ∷ Reg reg.A ∷ []) k AtHl
+unfoldable pub rAt : ℕ → Place
+rAt k = getD (place.B ∷ place.C ∷ place.D ∷ place.E ∷ place.H ∷ place.L ∷ place.AtHl ∷ place.A ∷ []) k place.AtHl
+
+-- a place as an operand
+unfoldable pub operandOf : Place → Operand
+operandOf place.B = Reg reg.B
+operandOf place.C = Reg reg.C
+operandOf place.D = Reg reg.D
+operandOf place.E = Reg reg.E
+operandOf place.H = Reg reg.H
+operandOf place.L = Reg reg.L
+operandOf place.AtHl = AtHl
+operandOf place.A = Reg reg.A
 
 -- rp is BC DE HL SP; on the stack AF stands in the place of SP
 unfoldable pub rpAt : ℕ → Pair
@@ -65,7 +78,7 @@ unfoldable pub x0Of : ℕ → ℕ → ℕ → ℕ → ℕ → ℕ → Insn
 x0Of y z p q n w =
     nth z
     (nth y (Nop ∷ StoreSp w ∷ Stop ∷ Jr n ∷ JrIf cond.Nz n ∷ JrIf cond.Z n ∷ JrIf cond.Nc n ∷ JrIf cond.C n ∷ [])
-    ∷ nth q (LoadPair (rpAt p) w ∷ AddHl (rpAt p) ∷ [])
+    ∷ nth q (LoadPair w (rpAt p) ∷ AddHl (rpAt p) ∷ [])
     ∷ nth q (StoreAt (pointerAt p) ∷ LoadAt (pointerAt p) ∷ [])
     ∷ nth q (IncPair (rpAt p) ∷ DecPair (rpAt p) ∷ [])
     ∷ Inc (rAt y)
@@ -81,11 +94,11 @@ haltOr true i = Halt
 haltOr false i = i
 
 unfoldable pub x1Of : ℕ → ℕ → ℕ → Insn
-x1Of op y z = haltOr (eqb op 0x76) (Load (rAt y) (rAt z))
+x1Of op y z = haltOr (eqb op 0x76) (Load (rAt y) (operandOf (rAt z)))
 
 -- x 2: alu[y] A,r[z]
 unfoldable pub x2Of : ℕ → ℕ → Insn
-x2Of y z = Math (aluAt y) (rAt z)
+x2Of y z = Math (aluAt y) (operandOf (rAt z))
 
 -- x 3, by z
 unfoldable pub x3Of : ℕ → ℕ → ℕ → ℕ → ℕ → ℕ → Insn
@@ -111,5 +124,5 @@ decodeOf op n w = gridOf op (op / 64) (op / 8 % 8) (op % 8) (op / 16 % 4) (op / 
 
 -- opens the grid in a proof
 unfoldable pub grid : Unit {0}
-unfolding rAt rpAt stackedAt pointerAt aluAt rotAt nth prefixedAt prefixedOf x0Of haltOr x1Of x2Of x3Of gridOf decodeOf
+unfolding rAt operandOf rpAt stackedAt pointerAt aluAt rotAt nth prefixedAt prefixedOf x0Of haltOr x1Of x2Of x3Of gridOf decodeOf
 grid = tt

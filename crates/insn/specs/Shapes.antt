@@ -3,7 +3,7 @@
 -- undefined byte, which has none.
 -- Assumes nothing.
 use Prim.Native.Nat.{ℕ, _+_, _*_}
-use Rattle.insn.specs.Grid.{decodeOf}
+use Rattle.insn.specs.Grid.{operandOf, decodeOf}
 use Rattle.insn.specs.declared.Operand.{Operand}
 use Rattle.insn.specs.declared.Operand.the-variants.{Reg, AtHl, Const}
 use Rattle.insn.specs.declared.Decoded.{Decoded}
@@ -36,15 +36,15 @@ shapeOf (StoreSp w) = takes 2 5
 shapeOf Stop = takes 1 1
 shapeOf (Jr e) = takes 1 3
 shapeOf (JrIf cc e) = takes 1 2
-shapeOf (LoadPair rp w) = takes 2 3
+shapeOf (LoadPair w rp) = takes 2 3
 shapeOf (AddHl rp) = takes 0 2
 shapeOf (StoreAt p) = takes 0 2
 shapeOf (LoadAt p) = takes 0 2
 shapeOf (IncPair rp) = takes 0 2
 shapeOf (DecPair rp) = takes 0 2
-shapeOf (Inc o) = takes 0 (1 + 2 * accessOf o)
-shapeOf (Dec o) = takes 0 (1 + 2 * accessOf o)
-shapeOf (Load d s) = takes (carriedOf s) (1 + accessOf d + accessOf s)
+shapeOf (Inc p) = takes 0 (1 + 2 * accessOf (operandOf p))
+shapeOf (Dec p) = takes 0 (1 + 2 * accessOf (operandOf p))
+shapeOf (Load p s) = takes (carriedOf s) (1 + accessOf (operandOf p) + accessOf s)
 shapeOf (RotateA r) = takes 0 1
 shapeOf Daa = takes 0 1
 shapeOf Cpl = takes 0 1
@@ -68,10 +68,10 @@ shapeOf (StoreTo w) = takes 2 4
 shapeOf LoadHighC = takes 0 2
 shapeOf (LoadFrom w) = takes 2 4
 shapeOf (Jump w) = takes 2 4
-shapeOf (Rotate r o) = takes 1 (2 + 2 * accessOf o)
-shapeOf (Bit k o) = takes 1 (2 + accessOf o)
-shapeOf (Res k o) = takes 1 (2 + 2 * accessOf o)
-shapeOf (Set k o) = takes 1 (2 + 2 * accessOf o)
+shapeOf (Rotate r p) = takes 1 (2 + 2 * accessOf (operandOf p))
+shapeOf (Bit k p) = takes 1 (2 + accessOf (operandOf p))
+shapeOf (Res k p) = takes 1 (2 + 2 * accessOf (operandOf p))
+shapeOf (Set k p) = takes 1 (2 + 2 * accessOf (operandOf p))
 shapeOf Di = takes 0 1
 shapeOf Ei = takes 0 1
 shapeOf (CallIf cc w) = takes 2 3

@@ -25,6 +25,18 @@ pub enum Operand {
     Const(u8),
 }
 
+// A place that a byte can be put into: a register or the byte at HL.
+pub enum Place {
+    B,
+    C,
+    D,
+    E,
+    H,
+    L,
+    AtHl,
+    A,
+}
+
 // The pairs that count and add.
 pub enum Pair {
     Bc,
@@ -57,22 +69,23 @@ pub enum Cond {
     C,
 }
 
-// The instructions, in the grid's order; the names say what each does where the reference's are short.
+// The instructions, in the grid's order; the names say what each does where the reference's are short. What an instruction
+// changes is a place, what it only reads an operand.
 pub enum Insn {
     Nop,
     StoreSp(u16),
     Stop,
     Jr(u8),
     JrIf(Cond, u8),
-    LoadPair(Pair, u16),
+    LoadPair(u16, Pair),
     AddHl(Pair),
     StoreAt(Pointer),
     LoadAt(Pointer),
     IncPair(Pair),
     DecPair(Pair),
-    Inc(Operand),
-    Dec(Operand),
-    Load(Operand, Operand),
+    Inc(Place),
+    Dec(Place),
+    Load(Place, Operand),
     RotateA(Rot),
     Daa,
     Cpl,
@@ -96,10 +109,10 @@ pub enum Insn {
     LoadHighC,
     LoadFrom(u16),
     Jump(u16),
-    Rotate(Rot, Operand),
-    Bit(u8, Operand),
-    Res(u8, Operand),
-    Set(u8, Operand),
+    Rotate(Rot, Place),
+    Bit(u8, Place),
+    Res(u8, Place),
+    Set(u8, Place),
     Di,
     Ei,
     CallIf(Cond, u16),

@@ -1,28 +1,27 @@
 // The bytes after the prefix $CB, by the grid.
 use crate::Decoded;
 use crate::Insn;
-use crate::Operand;
-use crate::Register;
+use crate::Place;
 use arith::Rot;
 ghost use mathlib.Core.Path.{_≡_};
 ghost use Prim.Native.Nat.{_≤_, _<_, _*_, _+_};
-ghost use Rattle.insn.specs.Grid.{rAt, rotAt, prefixedOf};
+ghost use Rattle.insn.specs.Grid.{rAt, operandOf, rotAt, prefixedOf};
 ghost use Rattle.insn.specs.Shapes.{accessOf, shapedOf};
 
 // r: B C D E H L [HL] A.
-fn operand(k: u8) -> Operand
+fn place(k: u8) -> Place
     requires { ⌜ k < 8 ⌝ }
     ensures { λ r. ⌜ r ≡ rAt k ⌝ }
 {
     match k {
-        0 => Operand::Reg(Register::B),
-        1 => Operand::Reg(Register::C),
-        2 => Operand::Reg(Register::D),
-        3 => Operand::Reg(Register::E),
-        4 => Operand::Reg(Register::H),
-        5 => Operand::Reg(Register::L),
-        6 => Operand::AtHl,
-        _ => Operand::Reg(Register::A),
+        0 => Place::B,
+        1 => Place::C,
+        2 => Place::D,
+        3 => Place::E,
+        4 => Place::H,
+        5 => Place::L,
+        6 => Place::AtHl,
+        _ => Place::A,
     }
 }
 
@@ -43,14 +42,19 @@ fn rotate(k: u8) -> Rot
     }
 }
 
-// One access where the operand is in memory.
-fn access(o: Operand) -> u8
-    ensures { λ r. ⌜ (r ≡ accessOf o) × (r ≤ 1) ⌝ }
+// One access where the place is in memory.
+fn access(p: Place) -> u8
+    ensures { λ r. ⌜ (r ≡ accessOf (operandOf p)) × (r ≤ 1) ⌝ }
 {
-    match o {
-        Operand::Reg(_) => 0,
-        Operand::AtHl => 1,
-        Operand::Const(_) => 1,
+    match p {
+        Place::B => 0,
+        Place::C => 0,
+        Place::D => 0,
+        Place::E => 0,
+        Place::H => 0,
+        Place::L => 0,
+        Place::AtHl => 1,
+        Place::A => 0,
     }
 }
 
@@ -68,14 +72,14 @@ fn given(insn: Insn, cycles: u8) -> Decoded
 pub(crate) fn decode(op: u8) -> Decoded
     ensures { λ r. ⌜ r ≡ shapedOf (prefixedOf op) ⌝ }
 {
-    let o = operand(op % 8);
+    let p = place(op % 8);
     let y = op / 8 % 8;
-    let a = access(o);
+    let a = access(p);
     let x = op / 64;
     match x {
-        0 => given(Insn::Rotate(rotate(y), o), 2 + 2 * a),
-        1 => given(Insn::Bit(y, o), 2 + a),
-        2 => given(Insn::Res(y, o), 2 + 2 * a),
-        _ => given(Insn::Set(y, o), 2 + 2 * a),
+        0 => given(Insn::Rotate(rotate(y), p), 2 + 2 * a),
+        1 => given(Insn::Bit(y, p), 2 + a),
+        2 => given(Insn::Res(y, p), 2 + 2 * a),
+        _ => given(Insn::Set(y, p), 2 + 2 * a),
     }
 }

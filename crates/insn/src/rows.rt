@@ -5,6 +5,7 @@ use crate::Decoded;
 use crate::Insn;
 use crate::Operand;
 use crate::Pair;
+use crate::Place;
 use crate::Pointer;
 use crate::Register;
 use crate::Stacked;
@@ -15,6 +16,7 @@ ghost use mathlib.Core.Path.{_≡_};
 ghost use Prim.Native.Nat.{_/_};
 ghost use Rattle.insn.specs.declared.Insn.the-variants.{AddHl, CallIf, Dec, DecPair, Inc, IncPair, JrIf, JumpIf, Load, LoadAt, LoadPair, Math, Pop, Push, RetIf, RotateA, Rst, StoreAt};
 ghost use Rattle.insn.specs.declared.Operand.the-variants.{Reg, AtHl, Const};
+ghost use Rattle.insn.specs.declared.Place.the-variants as place;
 ghost use Rattle.insn.specs.Shapes.{decodedOf};
 
 // An instruction with what it takes.
@@ -25,41 +27,41 @@ fn given(insn: Insn, more: u16, cycles: u8) -> Decoded
 }
 
 // The instructions that stand in several places, with what they take. Rows of such calls take less to prove than rows of values.
-fn load(d: Register, s: Register) -> Decoded
-    ensures { λ r. ⌜ r ≡ record { insn = Load (Reg d) (Reg s); more = 0; cycles = 1 } ⌝ }
+fn load(d: Place, s: Register) -> Decoded
+    ensures { λ r. ⌜ r ≡ record { insn = Load d (Reg s); more = 0; cycles = 1 } ⌝ }
 {
     Decoded {
-        insn: Insn::Load(Operand::Reg(d), Operand::Reg(s)),
+        insn: Insn::Load(d, Operand::Reg(s)),
         more: 0,
         cycles: 1,
     }
 }
 
-fn load_hl(d: Register) -> Decoded
-    ensures { λ r. ⌜ r ≡ record { insn = Load (Reg d) AtHl; more = 0; cycles = 2 } ⌝ }
+fn load_hl(d: Place) -> Decoded
+    ensures { λ r. ⌜ r ≡ record { insn = Load d AtHl; more = 0; cycles = 2 } ⌝ }
 {
     Decoded {
-        insn: Insn::Load(Operand::Reg(d), Operand::AtHl),
+        insn: Insn::Load(d, Operand::AtHl),
         more: 0,
         cycles: 2,
     }
 }
 
 fn store_hl(s: Register) -> Decoded
-    ensures { λ r. ⌜ r ≡ record { insn = Load AtHl (Reg s); more = 0; cycles = 2 } ⌝ }
+    ensures { λ r. ⌜ r ≡ record { insn = Load place.AtHl (Reg s); more = 0; cycles = 2 } ⌝ }
 {
     Decoded {
-        insn: Insn::Load(Operand::AtHl, Operand::Reg(s)),
+        insn: Insn::Load(Place::AtHl, Operand::Reg(s)),
         more: 0,
         cycles: 2,
     }
 }
 
-fn load_const(d: Register, n: u8) -> Decoded
-    ensures { λ r. ⌜ r ≡ record { insn = Load (Reg d) (Const n); more = 1; cycles = 2 } ⌝ }
+fn load_const(d: Place, n: u8) -> Decoded
+    ensures { λ r. ⌜ r ≡ record { insn = Load d (Const n); more = 1; cycles = 2 } ⌝ }
 {
     Decoded {
-        insn: Insn::Load(Operand::Reg(d), Operand::Const(n)),
+        insn: Insn::Load(d, Operand::Const(n)),
         more: 1,
         cycles: 2,
     }
@@ -95,31 +97,31 @@ fn math_const(a: Alu, n: u8) -> Decoded
     }
 }
 
-fn inc(d: Register) -> Decoded
-    ensures { λ r. ⌜ r ≡ record { insn = Inc (Reg d); more = 0; cycles = 1 } ⌝ }
+fn inc(d: Place) -> Decoded
+    ensures { λ r. ⌜ r ≡ record { insn = Inc d; more = 0; cycles = 1 } ⌝ }
 {
     Decoded {
-        insn: Insn::Inc(Operand::Reg(d)),
+        insn: Insn::Inc(d),
         more: 0,
         cycles: 1,
     }
 }
 
-fn dec(d: Register) -> Decoded
-    ensures { λ r. ⌜ r ≡ record { insn = Dec (Reg d); more = 0; cycles = 1 } ⌝ }
+fn dec(d: Place) -> Decoded
+    ensures { λ r. ⌜ r ≡ record { insn = Dec d; more = 0; cycles = 1 } ⌝ }
 {
     Decoded {
-        insn: Insn::Dec(Operand::Reg(d)),
+        insn: Insn::Dec(d),
         more: 0,
         cycles: 1,
     }
 }
 
 fn load_pair(p: Pair, w: u16) -> Decoded
-    ensures { λ r. ⌜ r ≡ record { insn = LoadPair p w; more = 2; cycles = 3 } ⌝ }
+    ensures { λ r. ⌜ r ≡ record { insn = LoadPair w p; more = 2; cycles = 3 } ⌝ }
 {
     Decoded {
-        insn: Insn::LoadPair(p, w),
+        insn: Insn::LoadPair(w, p),
         more: 2,
         cycles: 3,
     }
@@ -264,17 +266,17 @@ pub(crate) fn row_0(op: u8, n8: u8, n16: u16) -> Decoded
         0x01 => load_pair(Pair::Bc, n16),
         0x02 => store_at(Pointer::Bc),
         0x03 => inc_pair(Pair::Bc),
-        0x04 => inc(Register::B),
-        0x05 => dec(Register::B),
-        0x06 => load_const(Register::B, n8),
+        0x04 => inc(Place::B),
+        0x05 => dec(Place::B),
+        0x06 => load_const(Place::B, n8),
         0x07 => rotate_a(Rot::Rlc),
         0x08 => given(Insn::StoreSp(n16), 2, 5),
         0x09 => add_hl(Pair::Bc),
         0x0A => load_at(Pointer::Bc),
         0x0B => dec_pair(Pair::Bc),
-        0x0C => inc(Register::C),
-        0x0D => dec(Register::C),
-        0x0E => load_const(Register::C, n8),
+        0x0C => inc(Place::C),
+        0x0D => dec(Place::C),
+        0x0E => load_const(Place::C, n8),
         _ => rotate_a(Rot::Rrc),
     }
 }
@@ -288,17 +290,17 @@ pub(crate) fn row_1(op: u8, n8: u8, n16: u16) -> Decoded
         0x11 => load_pair(Pair::De, n16),
         0x12 => store_at(Pointer::De),
         0x13 => inc_pair(Pair::De),
-        0x14 => inc(Register::D),
-        0x15 => dec(Register::D),
-        0x16 => load_const(Register::D, n8),
+        0x14 => inc(Place::D),
+        0x15 => dec(Place::D),
+        0x16 => load_const(Place::D, n8),
         0x17 => rotate_a(Rot::Rl),
         0x18 => given(Insn::Jr(n8), 1, 3),
         0x19 => add_hl(Pair::De),
         0x1A => load_at(Pointer::De),
         0x1B => dec_pair(Pair::De),
-        0x1C => inc(Register::E),
-        0x1D => dec(Register::E),
-        0x1E => load_const(Register::E, n8),
+        0x1C => inc(Place::E),
+        0x1D => dec(Place::E),
+        0x1E => load_const(Place::E, n8),
         _ => rotate_a(Rot::Rr),
     }
 }
@@ -312,17 +314,17 @@ pub(crate) fn row_2(op: u8, n8: u8, n16: u16) -> Decoded
         0x21 => load_pair(Pair::Hl, n16),
         0x22 => store_at(Pointer::Hli),
         0x23 => inc_pair(Pair::Hl),
-        0x24 => inc(Register::H),
-        0x25 => dec(Register::H),
-        0x26 => load_const(Register::H, n8),
+        0x24 => inc(Place::H),
+        0x25 => dec(Place::H),
+        0x26 => load_const(Place::H, n8),
         0x27 => given(Insn::Daa, 0, 1),
         0x28 => jr_if(Cond::Z, n8),
         0x29 => add_hl(Pair::Hl),
         0x2A => load_at(Pointer::Hli),
         0x2B => dec_pair(Pair::Hl),
-        0x2C => inc(Register::L),
-        0x2D => dec(Register::L),
-        0x2E => load_const(Register::L, n8),
+        0x2C => inc(Place::L),
+        0x2D => dec(Place::L),
+        0x2E => load_const(Place::L, n8),
         _ => given(Insn::Cpl, 0, 1),
     }
 }
@@ -336,17 +338,17 @@ pub(crate) fn row_3(op: u8, n8: u8, n16: u16) -> Decoded
         0x31 => load_pair(Pair::Sp, n16),
         0x32 => store_at(Pointer::Hld),
         0x33 => inc_pair(Pair::Sp),
-        0x34 => given(Insn::Inc(Operand::AtHl), 0, 3),
-        0x35 => given(Insn::Dec(Operand::AtHl), 0, 3),
-        0x36 => given(Insn::Load(Operand::AtHl, Operand::Const(n8)), 1, 3),
+        0x34 => given(Insn::Inc(Place::AtHl), 0, 3),
+        0x35 => given(Insn::Dec(Place::AtHl), 0, 3),
+        0x36 => given(Insn::Load(Place::AtHl, Operand::Const(n8)), 1, 3),
         0x37 => given(Insn::Scf, 0, 1),
         0x38 => jr_if(Cond::C, n8),
         0x39 => add_hl(Pair::Sp),
         0x3A => load_at(Pointer::Hld),
         0x3B => dec_pair(Pair::Sp),
-        0x3C => inc(Register::A),
-        0x3D => dec(Register::A),
-        0x3E => load_const(Register::A, n8),
+        0x3C => inc(Place::A),
+        0x3D => dec(Place::A),
+        0x3E => load_const(Place::A, n8),
         _ => given(Insn::Ccf, 0, 1),
     }
 }
@@ -356,22 +358,22 @@ pub(crate) fn row_4(op: u8, n8: u8, n16: u16) -> Decoded
     ensures { λ r. ⌜ r ≡ decodedOf op n8 n16 ⌝ }
 {
     match op {
-        0x40 => load(Register::B, Register::B),
-        0x41 => load(Register::B, Register::C),
-        0x42 => load(Register::B, Register::D),
-        0x43 => load(Register::B, Register::E),
-        0x44 => load(Register::B, Register::H),
-        0x45 => load(Register::B, Register::L),
-        0x46 => load_hl(Register::B),
-        0x47 => load(Register::B, Register::A),
-        0x48 => load(Register::C, Register::B),
-        0x49 => load(Register::C, Register::C),
-        0x4A => load(Register::C, Register::D),
-        0x4B => load(Register::C, Register::E),
-        0x4C => load(Register::C, Register::H),
-        0x4D => load(Register::C, Register::L),
-        0x4E => load_hl(Register::C),
-        _ => load(Register::C, Register::A),
+        0x40 => load(Place::B, Register::B),
+        0x41 => load(Place::B, Register::C),
+        0x42 => load(Place::B, Register::D),
+        0x43 => load(Place::B, Register::E),
+        0x44 => load(Place::B, Register::H),
+        0x45 => load(Place::B, Register::L),
+        0x46 => load_hl(Place::B),
+        0x47 => load(Place::B, Register::A),
+        0x48 => load(Place::C, Register::B),
+        0x49 => load(Place::C, Register::C),
+        0x4A => load(Place::C, Register::D),
+        0x4B => load(Place::C, Register::E),
+        0x4C => load(Place::C, Register::H),
+        0x4D => load(Place::C, Register::L),
+        0x4E => load_hl(Place::C),
+        _ => load(Place::C, Register::A),
     }
 }
 
@@ -380,22 +382,22 @@ pub(crate) fn row_5(op: u8, n8: u8, n16: u16) -> Decoded
     ensures { λ r. ⌜ r ≡ decodedOf op n8 n16 ⌝ }
 {
     match op {
-        0x50 => load(Register::D, Register::B),
-        0x51 => load(Register::D, Register::C),
-        0x52 => load(Register::D, Register::D),
-        0x53 => load(Register::D, Register::E),
-        0x54 => load(Register::D, Register::H),
-        0x55 => load(Register::D, Register::L),
-        0x56 => load_hl(Register::D),
-        0x57 => load(Register::D, Register::A),
-        0x58 => load(Register::E, Register::B),
-        0x59 => load(Register::E, Register::C),
-        0x5A => load(Register::E, Register::D),
-        0x5B => load(Register::E, Register::E),
-        0x5C => load(Register::E, Register::H),
-        0x5D => load(Register::E, Register::L),
-        0x5E => load_hl(Register::E),
-        _ => load(Register::E, Register::A),
+        0x50 => load(Place::D, Register::B),
+        0x51 => load(Place::D, Register::C),
+        0x52 => load(Place::D, Register::D),
+        0x53 => load(Place::D, Register::E),
+        0x54 => load(Place::D, Register::H),
+        0x55 => load(Place::D, Register::L),
+        0x56 => load_hl(Place::D),
+        0x57 => load(Place::D, Register::A),
+        0x58 => load(Place::E, Register::B),
+        0x59 => load(Place::E, Register::C),
+        0x5A => load(Place::E, Register::D),
+        0x5B => load(Place::E, Register::E),
+        0x5C => load(Place::E, Register::H),
+        0x5D => load(Place::E, Register::L),
+        0x5E => load_hl(Place::E),
+        _ => load(Place::E, Register::A),
     }
 }
 
@@ -404,22 +406,22 @@ pub(crate) fn row_6(op: u8, n8: u8, n16: u16) -> Decoded
     ensures { λ r. ⌜ r ≡ decodedOf op n8 n16 ⌝ }
 {
     match op {
-        0x60 => load(Register::H, Register::B),
-        0x61 => load(Register::H, Register::C),
-        0x62 => load(Register::H, Register::D),
-        0x63 => load(Register::H, Register::E),
-        0x64 => load(Register::H, Register::H),
-        0x65 => load(Register::H, Register::L),
-        0x66 => load_hl(Register::H),
-        0x67 => load(Register::H, Register::A),
-        0x68 => load(Register::L, Register::B),
-        0x69 => load(Register::L, Register::C),
-        0x6A => load(Register::L, Register::D),
-        0x6B => load(Register::L, Register::E),
-        0x6C => load(Register::L, Register::H),
-        0x6D => load(Register::L, Register::L),
-        0x6E => load_hl(Register::L),
-        _ => load(Register::L, Register::A),
+        0x60 => load(Place::H, Register::B),
+        0x61 => load(Place::H, Register::C),
+        0x62 => load(Place::H, Register::D),
+        0x63 => load(Place::H, Register::E),
+        0x64 => load(Place::H, Register::H),
+        0x65 => load(Place::H, Register::L),
+        0x66 => load_hl(Place::H),
+        0x67 => load(Place::H, Register::A),
+        0x68 => load(Place::L, Register::B),
+        0x69 => load(Place::L, Register::C),
+        0x6A => load(Place::L, Register::D),
+        0x6B => load(Place::L, Register::E),
+        0x6C => load(Place::L, Register::H),
+        0x6D => load(Place::L, Register::L),
+        0x6E => load_hl(Place::L),
+        _ => load(Place::L, Register::A),
     }
 }
 
@@ -436,14 +438,14 @@ pub(crate) fn row_7(op: u8, n8: u8, n16: u16) -> Decoded
         0x75 => store_hl(Register::L),
         0x76 => given(Insn::Halt, 0, 1),
         0x77 => store_hl(Register::A),
-        0x78 => load(Register::A, Register::B),
-        0x79 => load(Register::A, Register::C),
-        0x7A => load(Register::A, Register::D),
-        0x7B => load(Register::A, Register::E),
-        0x7C => load(Register::A, Register::H),
-        0x7D => load(Register::A, Register::L),
-        0x7E => load_hl(Register::A),
-        _ => load(Register::A, Register::A),
+        0x78 => load(Place::A, Register::B),
+        0x79 => load(Place::A, Register::C),
+        0x7A => load(Place::A, Register::D),
+        0x7B => load(Place::A, Register::E),
+        0x7C => load(Place::A, Register::H),
+        0x7D => load(Place::A, Register::L),
+        0x7E => load_hl(Place::A),
+        _ => load(Place::A, Register::A),
     }
 }
 

@@ -12,10 +12,13 @@ use Rattle.arith.specs.Flags.{zOf, cOf}
 use Rattle.arith.specs.declared.Byte.{Byte}
 use Rattle.arith.proofs.Laws.{ByteFits, flags-below, high-below, low-below, word-below, further-below, back-below, offset-below, alu-fits, increased-fits, decreased-fits, rotation-fits, rotation-a-fits, decimal-fits, added-hl-fits, added-sp-fits, reset-below, set-below, tested-below}
 use Rattle.insn.specs.Shapes.{shapeOf}
+use Rattle.insn.specs.Grid.{operandOf}
 use Rattle.insn.specs.declared.Register.{Register}
-use Rattle.insn.specs.declared.Register.the-variants.{B, C, D, E, H, L, A}
+use Rattle.insn.specs.declared.Register.the-variants as reg
 use Rattle.insn.specs.declared.Operand.{Operand}
 use Rattle.insn.specs.declared.Operand.the-variants.{Reg, AtHl, Const}
+use Rattle.insn.specs.declared.Place.{Place}
+use Rattle.insn.specs.declared.Place.the-variants as place
 use Rattle.insn.specs.declared.Pair.{Pair}
 use Rattle.insn.specs.declared.Pair.the-variants as pair
 use Rattle.insn.specs.declared.Stacked.{Stacked}
@@ -24,12 +27,12 @@ use Rattle.insn.specs.declared.Pointer.{Pointer}
 use Rattle.insn.specs.declared.Pointer.the-variants as pointer
 use Rattle.insn.specs.declared.Insn.{Insn}
 use Rattle.insn.specs.declared.Insn.the-variants.{Nop, StoreSp, Stop, Jr, JrIf, LoadPair, AddHl, StoreAt, LoadAt, IncPair, DecPair, Inc, Dec, Load, RotateA, Daa, Cpl, Scf, Ccf, Halt, Math, RetIf, StoreHigh, AddSp, LoadHigh, LoadHlSp, Pop, Ret, Reti, JumpHl, LoadSpHl, JumpIf, StoreHighC, StoreTo, LoadHighC, LoadFrom, Jump, Rotate, Bit, Res, Set, Di, Ei, CallIf, Push, Call, Rst, Undefined}
-use Rattle.insn.proofs.Sound.{SoundOperand, Sound as SoundInsn, decode-sound}
+use Rattle.insn.proofs.Sound.{SoundOperand, Sound as SoundInsn, place-sound, decode-sound}
 use Rattle.machine.specs.State.{withF, regOf, withReg, hlOf, setHl, withPair, withStacked}
 use Rattle.machine.specs.Answers.{With, keeping}
 use Rattle.machine.specs.Memory.{byteAt, stored, wordAt, pendingOf}
 use Rattle.machine.specs.Stack.{pushedOf, returnedTo, calledOf}
-use Rattle.machine.specs.Operands.{valueOf, placedOf, updatedOf, movedOf}
+use Rattle.machine.specs.Operands.{valueOf, heldOf, placedOf, updatedOf, movedOf}
 use Rattle.machine.specs.Execute.{execOf, resultOf, addedToHlOf, addedToSpOf, hlFromSpOf, jumpedIf, calledIf, returnedIf, storedAtOf, loadedFrom, complementedOf, withCarryOf, haltedOf}
 use Rattle.machine.specs.Interrupts.{lowestSet, lowestOf, vectoredOf, dispatchOf}
 use Rattle.machine.specs.Step.{accepting, insnAt, readyOf, endOf, finishedOf, stepOf}
@@ -63,13 +66,13 @@ word-at-below m at b = word-below _ _ (b _) (b at)
 
 pub reg-below : (r : Register) (s : Cpu) → Sound s → regOf r s < 256
 unfolding regOf
-reg-below B s h = h .b
-reg-below C s h = h .c
-reg-below D s h = h .d
-reg-below E s h = h .e
-reg-below H s h = h .h
-reg-below L s h = h .l
-reg-below A s h = h .a
+reg-below reg.B s h = h .b
+reg-below reg.C s h = h .c
+reg-below reg.D s h = h .d
+reg-below reg.E s h = h .e
+reg-below reg.H s h = h .h
+reg-below reg.L s h = h .l
+reg-below reg.A s h = h .a
 
 pub hl-below : (s : Cpu) → Sound s → hlOf s < 65536
 unfolding hlOf
@@ -81,17 +84,21 @@ value-below (Reg r) s m i h b = reg-below r s h
 value-below AtHl s m i h b = b (hlOf s)
 value-below (Const v) s m i h b = i
 
+held-below : (p : Place) (s : Cpu) (m : List ℕ) → Sound s → Bytes m → heldOf p s m < 256
+unfolding heldOf
+held-below p s m h b = value-below (operandOf p) s m (place-sound p) h b
+
 -- what is set
 
 reg-sound : (r : Register) (v : ℕ) (s : Cpu) → v < 256 → Sound s → Sound (withReg r v s)
 unfolding withReg
-reg-sound B v s p h = omega arith
-reg-sound C v s p h = omega arith
-reg-sound D v s p h = omega arith
-reg-sound E v s p h = omega arith
-reg-sound H v s p h = omega arith
-reg-sound L v s p h = omega arith
-reg-sound A v s p h = omega arith
+reg-sound reg.B v s p h = omega arith
+reg-sound reg.C v s p h = omega arith
+reg-sound reg.D v s p h = omega arith
+reg-sound reg.E v s p h = omega arith
+reg-sound reg.H v s p h = omega arith
+reg-sound reg.L v s p h = omega arith
+reg-sound reg.A v s p h = omega arith
 
 pair-sound : (rp : Pair) (w : ℕ) (s : Cpu) → w < 65536 → Sound s → Sound (withPair rp w s)
 unfolding withPair setHl
@@ -121,15 +128,20 @@ moved-sound pointer.De s h = h
 moved-sound pointer.Hli s h = hl-sound _ s h
 moved-sound pointer.Hld s h = hl-sound _ s h
 
-placed-sound : (o : Operand) (v : ℕ) (s : Cpu) (m : List ℕ) → v < 256 → Sound s → Sound (placedOf o v s m .out)
+placed-sound : (q : Place) (v : ℕ) (s : Cpu) (m : List ℕ) → v < 256 → Sound s → Sound (placedOf q v s m .out)
 unfolding placedOf
-placed-sound (Reg r) v s m p h = reg-sound r v s p h
-placed-sound AtHl v s m p h = h
-placed-sound (Const k) v s m p h = h
+placed-sound place.B v s m p h = reg-sound reg.B v s p h
+placed-sound place.C v s m p h = reg-sound reg.C v s p h
+placed-sound place.D v s m p h = reg-sound reg.D v s p h
+placed-sound place.E v s m p h = reg-sound reg.E v s p h
+placed-sound place.H v s m p h = reg-sound reg.H v s p h
+placed-sound place.L v s m p h = reg-sound reg.L v s p h
+placed-sound place.AtHl v s m p h = h
+placed-sound place.A v s m p h = reg-sound reg.A v s p h
 
-updated-sound : (o : Operand) (r : Byte) (s : Cpu) (m : List ℕ) → ByteFits r → Sound s → Sound (updatedOf o r s m .out)
+updated-sound : (q : Place) (r : Byte) (s : Cpu) (m : List ℕ) → ByteFits r → Sound s → Sound (updatedOf q r s m .out)
 unfolding updatedOf
-updated-sound o r s m f h = placed-sound o (r .value) _ m (f .value-below) (omega (arith, f .flags-below))
+updated-sound q r s m f h = placed-sound q (r .value) _ m (f .value-below) (omega (arith, f .flags-below))
 
 result-sound : (r : Byte) (s : Cpu) → ByteFits r → Sound s → Sound (resultOf r s)
 unfolding resultOf
@@ -161,15 +173,15 @@ exec-sound (StoreSp w) s m i h b = h
 exec-sound Stop s m i h b = omega arith
 exec-sound (Jr e) s m i h b = omega (arith, offset-below e (s .pc))
 exec-sound (JrIf cc e) s m i h b = jumped-sound _ _ s (offset-below e (s .pc)) h
-exec-sound (LoadPair rp w) s m i h b = pair-sound rp w s i h
+exec-sound (LoadPair w rp) s m i h b = pair-sound rp w s i h
 exec-sound (AddHl rp) s m i h b = hl-sound _ _ (flags-sound _ s (added-hl-fits _ _ _ .flags-below) h)
 exec-sound (StoreAt p) s m i h b = moved-sound p s h
 exec-sound (LoadAt p) s m i h b = moved-sound p _ (loaded-sound _ s m h b)
 exec-sound (IncPair rp) s m i h b = pair-sound rp _ s (further-below 1 _) h
 exec-sound (DecPair rp) s m i h b = pair-sound rp _ s (back-below 1 _) h
-exec-sound (Inc o) s m i h b = updated-sound o _ s m (increased-fits _ _) h
-exec-sound (Dec o) s m i h b = updated-sound o _ s m (decreased-fits _ _) h
-exec-sound (Load d o) s m i h b = placed-sound d _ s m (value-below o s m (i .1) h b) h
+exec-sound (Inc q) s m i h b = updated-sound q _ s m (increased-fits _ _) h
+exec-sound (Dec q) s m i h b = updated-sound q _ s m (decreased-fits _ _) h
+exec-sound (Load q o) s m i h b = placed-sound q _ s m (value-below o s m i h b) h
 exec-sound (RotateA r) s m i h b = result-sound _ s (rotation-a-fits r (s .a) _ (h .a)) h
 exec-sound Daa s m i h b = result-sound _ s (decimal-fits (s .a) (s .f)) h
 exec-sound Cpl s m i h b = omega (arith, flags-below (zOf (s .f)) true true (cOf (s .f)))
@@ -193,10 +205,10 @@ exec-sound (StoreTo w) s m i h b = h
 exec-sound LoadHighC s m i h b = loaded-sound _ s m h b
 exec-sound (LoadFrom w) s m i h b = loaded-sound _ s m h b
 exec-sound (Jump w) s m i h b = omega (arith, i)
-exec-sound (Rotate r o) s m i h b = updated-sound o _ s m (rotation-fits r _ _ (value-below o s m i h b)) h
-exec-sound (Bit k o) s m i h b = flags-sound _ s (tested-below _ _ _) h
-exec-sound (Res k o) s m i h b = placed-sound o _ s m (reset-below k _ (value-below o s m (i .1) h b)) h
-exec-sound (Set k o) s m i h b = placed-sound o _ s m (set-below k _ (value-below o s m (i .1) h b)) h
+exec-sound (Rotate r q) s m i h b = updated-sound q _ s m (rotation-fits r _ _ (held-below q s m h b)) h
+exec-sound (Bit k q) s m i h b = flags-sound _ s (tested-below _ _ _) h
+exec-sound (Res k q) s m i h b = placed-sound q _ s m (reset-below k _ (held-below q s m h b)) h
+exec-sound (Set k q) s m i h b = placed-sound q _ s m (set-below k _ (held-below q s m h b)) h
 exec-sound Di s m i h b = omega arith
 exec-sound Ei s m i h b = omega arith
 exec-sound (CallIf cc w) s m i h b = called-sound _ w s m i h
@@ -235,11 +247,16 @@ unfolding callStores
 call-small true s = push-small (s .pc) s
 call-small false s = tt
 
-place-small : (o : Operand) (v : ℕ) (s : Cpu) → v < 256 → Small (placeStores o v s)
+place-small : (q : Place) (v : ℕ) (s : Cpu) → v < 256 → Small (placeStores q v s)
 unfolding placeStores
-place-small (Reg r) v s p = tt
-place-small AtHl v s p = (p, tt)
-place-small (Const k) v s p = tt
+place-small place.B v s p = tt
+place-small place.C v s p = tt
+place-small place.D v s p = tt
+place-small place.E v s p = tt
+place-small place.H v s p = tt
+place-small place.L v s p = tt
+place-small place.AtHl v s p = (p, tt)
+place-small place.A v s p = tt
 
 exec-small : (i : Insn) (s : Cpu) (m : List ℕ) → SoundInsn i → Sound s → Bytes m → Small (execStores i s m)
 unfolding execStores
@@ -248,15 +265,15 @@ exec-small (StoreSp w) s m i h b = (low-below (s .sp), (high-below (s .sp), tt))
 exec-small Stop s m i h b = tt
 exec-small (Jr e) s m i h b = tt
 exec-small (JrIf cc e) s m i h b = tt
-exec-small (LoadPair rp w) s m i h b = tt
+exec-small (LoadPair w rp) s m i h b = tt
 exec-small (AddHl rp) s m i h b = tt
 exec-small (StoreAt p) s m i h b = (h .a, tt)
 exec-small (LoadAt p) s m i h b = tt
 exec-small (IncPair rp) s m i h b = tt
 exec-small (DecPair rp) s m i h b = tt
-exec-small (Inc o) s m i h b = place-small o _ s (increased-fits _ _ .value-below)
-exec-small (Dec o) s m i h b = place-small o _ s (decreased-fits _ _ .value-below)
-exec-small (Load d o) s m i h b = place-small d _ s (value-below o s m (i .1) h b)
+exec-small (Inc q) s m i h b = place-small q _ s (increased-fits _ _ .value-below)
+exec-small (Dec q) s m i h b = place-small q _ s (decreased-fits _ _ .value-below)
+exec-small (Load q o) s m i h b = place-small q _ s (value-below o s m i h b)
 exec-small (RotateA r) s m i h b = tt
 exec-small Daa s m i h b = tt
 exec-small Cpl s m i h b = tt
@@ -280,10 +297,10 @@ exec-small (StoreTo w) s m i h b = (h .a, tt)
 exec-small LoadHighC s m i h b = tt
 exec-small (LoadFrom w) s m i h b = tt
 exec-small (Jump w) s m i h b = tt
-exec-small (Rotate r o) s m i h b = place-small o _ s (rotation-fits r _ _ (value-below o s m i h b) .value-below)
-exec-small (Bit k o) s m i h b = tt
-exec-small (Res k o) s m i h b = place-small o _ s (reset-below k _ (value-below o s m (i .1) h b))
-exec-small (Set k o) s m i h b = place-small o _ s (set-below k _ (value-below o s m (i .1) h b))
+exec-small (Rotate r q) s m i h b = place-small q _ s (rotation-fits r _ _ (held-below q s m h b) .value-below)
+exec-small (Bit k q) s m i h b = tt
+exec-small (Res k q) s m i h b = place-small q _ s (reset-below k _ (held-below q s m h b))
+exec-small (Set k q) s m i h b = place-small q _ s (set-below k _ (held-below q s m h b))
 exec-small Di s m i h b = tt
 exec-small Ei s m i h b = tt
 exec-small (CallIf cc w) s m i h b = call-small _ s

@@ -6,11 +6,11 @@ use mathlib.Core.List.{List}
 use mathlib.Core.Path.{_≡_}
 use native.Mathlib.Omega.{arith}
 use Rattle.arith.specs.Words.{offsetOf}
-use Rattle.insn.specs.Shapes.{shapeOf, accessOf}
-use Rattle.insn.specs.declared.Operand.{Operand}
-use Rattle.insn.specs.declared.Operand.the-variants.{Reg, AtHl, Const}
+use Rattle.insn.specs.Grid.{operandOf}
+use Rattle.insn.specs.Shapes.{shapeOf}
 use Rattle.insn.specs.declared.Insn.{Insn}
 use Rattle.insn.specs.declared.Insn.the-variants.{Nop, StoreSp, Stop, Jr, JrIf, LoadPair, AddHl, StoreAt, LoadAt, IncPair, DecPair, Inc, Dec, Load, RotateA, Daa, Cpl, Scf, Ccf, Halt, Math, RetIf, StoreHigh, AddSp, LoadHigh, LoadHlSp, Pop, Ret, Reti, JumpHl, LoadSpHl, JumpIf, StoreHighC, StoreTo, LoadHighC, LoadFrom, Jump, Rotate, Bit, Res, Set, Di, Ei, CallIf, Push, Call, Rst, Undefined}
+use Rattle.insn.proofs.Laws.{access-most}
 use Rattle.machine.specs.Answers.{With}
 use Rattle.machine.specs.State.{metOf}
 use Rattle.machine.specs.Memory.{wordAt}
@@ -19,12 +19,6 @@ use Rattle.machine.specs.Step.{readyOf, endOf, finishedOf, stepOf}
 use Rattle.machine.specs.declared.Cpu.{Cpu}
 use Rattle.machine.specs.declared.Stepped.{Stepped}
 use Rattle.machine.proofs.Rules.{ruled, insnRun, nextInsn, nextAfter, by-rules, by-refusals}
-
-access-most : (o : Operand) → accessOf o ≤ 1
-unfolding accessOf
-access-most (Reg r) = omega arith
-access-most AtHl = omega arith
-access-most (Const v) = omega arith
 
 jumped-most : (t : Bool) (to : ℕ) (s : Cpu) → jumpedIf t to s .extra ≤ 1
 unfolding jumpedIf
@@ -53,15 +47,15 @@ exec-cost (StoreSp w) s m = omega arith
 exec-cost Stop s m = omega arith
 exec-cost (Jr e) s m = omega arith
 exec-cost (JrIf cc e) s m = omega (arith, jumped-most (metOf cc (s .f)) (offsetOf e (s .pc)) s)
-exec-cost (LoadPair rp w) s m = omega arith
+exec-cost (LoadPair w rp) s m = omega arith
 exec-cost (AddHl rp) s m = omega arith
 exec-cost (StoreAt p) s m = omega arith
 exec-cost (LoadAt p) s m = omega arith
 exec-cost (IncPair rp) s m = omega arith
 exec-cost (DecPair rp) s m = omega arith
-exec-cost (Inc o) s m = omega (arith, access-most o)
-exec-cost (Dec o) s m = omega (arith, access-most o)
-exec-cost (Load d o) s m = omega (arith, access-most d, access-most o)
+exec-cost (Inc p) s m = omega (arith, access-most (operandOf p))
+exec-cost (Dec p) s m = omega (arith, access-most (operandOf p))
+exec-cost (Load p o) s m = omega (arith, access-most (operandOf p), access-most o)
 exec-cost (RotateA r) s m = omega arith
 exec-cost Daa s m = omega arith
 exec-cost Cpl s m = omega arith
@@ -85,10 +79,10 @@ exec-cost (StoreTo w) s m = omega arith
 exec-cost LoadHighC s m = omega arith
 exec-cost (LoadFrom w) s m = omega arith
 exec-cost (Jump w) s m = omega arith
-exec-cost (Rotate r o) s m = omega (arith, access-most o)
-exec-cost (Bit k o) s m = omega (arith, access-most o)
-exec-cost (Res k o) s m = omega (arith, access-most o)
-exec-cost (Set k o) s m = omega (arith, access-most o)
+exec-cost (Rotate r p) s m = omega (arith, access-most (operandOf p))
+exec-cost (Bit k p) s m = omega (arith, access-most (operandOf p))
+exec-cost (Res k p) s m = omega (arith, access-most (operandOf p))
+exec-cost (Set k p) s m = omega (arith, access-most (operandOf p))
 exec-cost Di s m = omega arith
 exec-cost Ei s m = omega arith
 exec-cost (CallIf cc w) s m = omega (arith, called-most (metOf cc (s .f)) w s m)

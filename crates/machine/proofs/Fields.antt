@@ -6,9 +6,9 @@ use mathlib.Core.List.{List}
 use mathlib.Core.Path.{_≡_, refl}
 use Rattle.arith.specs.declared.Byte.{Byte}
 use Rattle.insn.specs.declared.Register.{Register}
-use Rattle.insn.specs.declared.Register.the-variants.{B, C, D, E, H, L, A}
-use Rattle.insn.specs.declared.Operand.{Operand}
-use Rattle.insn.specs.declared.Operand.the-variants.{Reg, AtHl, Const}
+use Rattle.insn.specs.declared.Register.the-variants as reg
+use Rattle.insn.specs.declared.Place.{Place}
+use Rattle.insn.specs.declared.Place.the-variants as place
 use Rattle.insn.specs.declared.Pair.{Pair}
 use Rattle.insn.specs.declared.Pair.the-variants as pair
 use Rattle.insn.specs.declared.Stacked.{Stacked}
@@ -31,13 +31,13 @@ same = record { f = refl; ime = refl }
 
 pub reg-same : (r : Register) (v : ℕ) (s : Cpu) → Same s (withReg r v s)
 unfolding withReg
-reg-same B v s = record { f = refl; ime = refl }
-reg-same C v s = record { f = refl; ime = refl }
-reg-same D v s = record { f = refl; ime = refl }
-reg-same E v s = record { f = refl; ime = refl }
-reg-same H v s = record { f = refl; ime = refl }
-reg-same L v s = record { f = refl; ime = refl }
-reg-same A v s = record { f = refl; ime = refl }
+reg-same reg.B v s = record { f = refl; ime = refl }
+reg-same reg.C v s = record { f = refl; ime = refl }
+reg-same reg.D v s = record { f = refl; ime = refl }
+reg-same reg.E v s = record { f = refl; ime = refl }
+reg-same reg.H v s = record { f = refl; ime = refl }
+reg-same reg.L v s = record { f = refl; ime = refl }
+reg-same reg.A v s = record { f = refl; ime = refl }
 
 pub pair-same : (rp : Pair) (w : ℕ) (s : Cpu) → Same s (withPair rp w s)
 unfolding withPair setHl
@@ -53,16 +53,21 @@ moved-same pointer.De s = record { f = refl; ime = refl }
 moved-same pointer.Hli s = record { f = refl; ime = refl }
 moved-same pointer.Hld s = record { f = refl; ime = refl }
 
-pub placed-same : (o : Operand) (v : ℕ) (s : Cpu) (m : List ℕ) → Same s (placedOf o v s m .out)
+pub placed-same : (p : Place) (v : ℕ) (s : Cpu) (m : List ℕ) → Same s (placedOf p v s m .out)
 unfolding placedOf
-placed-same (Reg r) v s m = reg-same r v s
-placed-same AtHl v s m = same
-placed-same (Const k) v s m = same
+placed-same place.B v s m = reg-same reg.B v s
+placed-same place.C v s m = reg-same reg.C v s
+placed-same place.D v s m = reg-same reg.D v s
+placed-same place.E v s m = reg-same reg.E v s
+placed-same place.H v s m = reg-same reg.H v s
+placed-same place.L v s m = reg-same reg.L v s
+placed-same place.AtHl v s m = same
+placed-same place.A v s m = reg-same reg.A v s
 
 -- a result put back has its own F
-pub updated-same : (o : Operand) (b : Byte) (s : Cpu) (m : List ℕ) → Same (withF (b .flags) s) (updatedOf o b s m .out)
+pub updated-same : (p : Place) (b : Byte) (s : Cpu) (m : List ℕ) → Same (withF (b .flags) s) (updatedOf p b s m .out)
 unfolding updatedOf
-updated-same o b s m = placed-same o (b .value) (withF (b .flags) s) m
+updated-same p b s m = placed-same p (b .value) (withF (b .flags) s) m
 
 pub jumped-same : (t : Bool) (to : ℕ) (s : Cpu) → Same s (jumpedIf t to s .cpu)
 unfolding jumpedIf

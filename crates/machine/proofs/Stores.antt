@@ -14,14 +14,14 @@ use Rattle.arith.specs.Flags.{cOf}
 use Rattle.arith.specs.Rotates.{rotationOf}
 use Rattle.arith.specs.Words.{highOf, lowOf, further, back}
 use Rattle.arith.specs.declared.Byte.{Byte}
-use Rattle.insn.specs.declared.Operand.{Operand}
-use Rattle.insn.specs.declared.Operand.the-variants.{Reg, AtHl, Const}
+use Rattle.insn.specs.declared.Place.{Place}
+use Rattle.insn.specs.declared.Place.the-variants as place
 use Rattle.insn.specs.declared.Insn.{Insn}
 use Rattle.insn.specs.declared.Insn.the-variants.{Nop, StoreSp, Stop, Jr, JrIf, LoadPair, AddHl, StoreAt, LoadAt, IncPair, DecPair, Inc, Dec, Load, RotateA, Daa, Cpl, Scf, Ccf, Halt, Math, RetIf, StoreHigh, AddSp, LoadHigh, LoadHlSp, Pop, Ret, Reti, JumpHl, LoadSpHl, JumpIf, StoreHighC, StoreTo, LoadHighC, LoadFrom, Jump, Rotate, Bit, Res, Set, Di, Ei, CallIf, Push, Call, Rst, Undefined}
 use Rattle.machine.specs.State.{withF, hlOf, stackedOf, metOf}
 use Rattle.machine.specs.Memory.{byteAt, stored, storedWord, pendingOf}
 use Rattle.machine.specs.Stack.{pushedOf, calledOf}
-use Rattle.machine.specs.Operands.{valueOf, placedOf, updatedOf, pointedOf}
+use Rattle.machine.specs.Operands.{valueOf, heldOf, placedOf, updatedOf, pointedOf}
 use Rattle.machine.specs.Execute.{execOf, calledIf, storedAtOf, highAddress}
 use Rattle.machine.specs.Interrupts.{lowestOf, dispatchOf, vectoredOf}
 use Rattle.machine.specs.Step.{endOf, finishedOf, readyOf, stepOf}
@@ -57,7 +57,7 @@ unfolding made
 made-other [] m at h = refl
 made-other (x ∷ xs) m at h = made-other xs _ at (h .1) ∙ stored-other m (x .at) (x .value) at (h .0)
 
--- what a push, a branch to a call, and a byte put into an operand's place store
+-- what a push, a branch to a call, and a byte put into a place store
 unfoldable pub pushStores : ℕ → Cpu → List Store
 pushStores w s = store (back 1 (s .sp)) (highOf w) ∷ store (back 2 (s .sp)) (lowOf w) ∷ []
 
@@ -65,10 +65,15 @@ unfoldable pub callStores : Bool → Cpu → List Store
 callStores true s = pushStores (s .pc) s
 callStores false s = []
 
-unfoldable pub placeStores : Operand → ℕ → Cpu → List Store
-placeStores (Reg r) v s = []
-placeStores AtHl v s = store (hlOf s) v ∷ []
-placeStores (Const k) v s = []
+unfoldable pub placeStores : Place → ℕ → Cpu → List Store
+placeStores place.B v s = []
+placeStores place.C v s = []
+placeStores place.D v s = []
+placeStores place.E v s = []
+placeStores place.H v s = []
+placeStores place.L v s = []
+placeStores place.AtHl v s = store (hlOf s) v ∷ []
+placeStores place.A v s = []
 
 -- what an instruction stores
 unfoldable pub execStores : Insn → Cpu → List ℕ → List Store
@@ -77,15 +82,15 @@ execStores (StoreSp w) s m = store w (lowOf (s .sp)) ∷ store (further 1 w) (hi
 execStores Stop s m = []
 execStores (Jr e) s m = []
 execStores (JrIf cc e) s m = []
-execStores (LoadPair rp w) s m = []
+execStores (LoadPair w rp) s m = []
 execStores (AddHl rp) s m = []
 execStores (StoreAt p) s m = store (pointedOf p s) (s .a) ∷ []
 execStores (LoadAt p) s m = []
 execStores (IncPair rp) s m = []
 execStores (DecPair rp) s m = []
-execStores (Inc o) s m = placeStores o (increasedOf (valueOf o s m) (s .f) .value) s
-execStores (Dec o) s m = placeStores o (decreasedOf (valueOf o s m) (s .f) .value) s
-execStores (Load d o) s m = placeStores d (valueOf o s m) s
+execStores (Inc p) s m = placeStores p (increasedOf (heldOf p s m) (s .f) .value) s
+execStores (Dec p) s m = placeStores p (decreasedOf (heldOf p s m) (s .f) .value) s
+execStores (Load p o) s m = placeStores p (valueOf o s m) s
 execStores (RotateA r) s m = []
 execStores Daa s m = []
 execStores Cpl s m = []
@@ -109,10 +114,10 @@ execStores (StoreTo w) s m = store w (s .a) ∷ []
 execStores LoadHighC s m = []
 execStores (LoadFrom w) s m = []
 execStores (Jump w) s m = []
-execStores (Rotate r o) s m = placeStores o (rotationOf r (valueOf o s m) (cOf (s .f)) .value) s
-execStores (Bit k o) s m = []
-execStores (Res k o) s m = placeStores o (resetOf k (valueOf o s m)) s
-execStores (Set k o) s m = placeStores o (setOf k (valueOf o s m)) s
+execStores (Rotate r p) s m = placeStores p (rotationOf r (heldOf p s m) (cOf (s .f)) .value) s
+execStores (Bit k p) s m = []
+execStores (Res k p) s m = placeStores p (resetOf k (heldOf p s m)) s
+execStores (Set k p) s m = placeStores p (setOf k (heldOf p s m)) s
 execStores Di s m = []
 execStores Ei s m = []
 execStores (CallIf cc w) s m = callStores (metOf cc (s .f)) s
@@ -145,21 +150,31 @@ storesOf s m = unlessCode (stepOf s m .out .code) (ruleStores s m)
 
 -- the memory after an instruction is the memory before with its stores made
 
-placed-made : (o : Operand) (v : ℕ) (s : Cpu) (m : List ℕ) → placedOf o v s m .mem ≡ made (placeStores o v s) m
+placed-made : (p : Place) (v : ℕ) (s : Cpu) (m : List ℕ) → placedOf p v s m .mem ≡ made (placeStores p v s) m
 unfolding placedOf placeStores made
-placed-made (Reg r) v s m = refl
-placed-made AtHl v s m = refl
-placed-made (Const k) v s m = refl
+placed-made place.B v s m = refl
+placed-made place.C v s m = refl
+placed-made place.D v s m = refl
+placed-made place.E v s m = refl
+placed-made place.H v s m = refl
+placed-made place.L v s m = refl
+placed-made place.AtHl v s m = refl
+placed-made place.A v s m = refl
 
-placed-flags : (o : Operand) (v f : ℕ) (s : Cpu) → placeStores o v (withF f s) ≡ placeStores o v s
+placed-flags : (p : Place) (v f : ℕ) (s : Cpu) → placeStores p v (withF f s) ≡ placeStores p v s
 unfolding placeStores hlOf
-placed-flags (Reg r) v f s = refl
-placed-flags AtHl v f s = refl
-placed-flags (Const k) v f s = refl
+placed-flags place.B v f s = refl
+placed-flags place.C v f s = refl
+placed-flags place.D v f s = refl
+placed-flags place.E v f s = refl
+placed-flags place.H v f s = refl
+placed-flags place.L v f s = refl
+placed-flags place.AtHl v f s = refl
+placed-flags place.A v f s = refl
 
-updated-made : (o : Operand) (b : Byte) (s : Cpu) (m : List ℕ) → updatedOf o b s m .mem ≡ made (placeStores o (b .value) s) m
+updated-made : (p : Place) (b : Byte) (s : Cpu) (m : List ℕ) → updatedOf p b s m .mem ≡ made (placeStores p (b .value) s) m
 unfolding updatedOf
-updated-made o b s m = rw (← placed-flags o (b .value) (b .flags) s) (placed-made o (b .value) (withF (b .flags) s) m)
+updated-made p b s m = rw (← placed-flags p (b .value) (b .flags) s) (placed-made p (b .value) (withF (b .flags) s) m)
 
 called-made : (t : Bool) (to : ℕ) (s : Cpu) (m : List ℕ) → calledIf t to s m .mem ≡ made (callStores t s) m
 unfolding calledIf calledOf pushedOf callStores pushStores made
@@ -173,15 +188,15 @@ exec-made (StoreSp w) s m = refl
 exec-made Stop s m = refl
 exec-made (Jr e) s m = refl
 exec-made (JrIf cc e) s m = refl
-exec-made (LoadPair rp w) s m = refl
+exec-made (LoadPair w rp) s m = refl
 exec-made (AddHl rp) s m = refl
 exec-made (StoreAt p) s m = refl
 exec-made (LoadAt p) s m = refl
 exec-made (IncPair rp) s m = refl
 exec-made (DecPair rp) s m = refl
-exec-made (Inc o) s m = updated-made o _ s m
-exec-made (Dec o) s m = updated-made o _ s m
-exec-made (Load d o) s m = placed-made d _ s m
+exec-made (Inc p) s m = updated-made p _ s m
+exec-made (Dec p) s m = updated-made p _ s m
+exec-made (Load p o) s m = placed-made p _ s m
 exec-made (RotateA r) s m = refl
 exec-made Daa s m = refl
 exec-made Cpl s m = refl
@@ -205,10 +220,10 @@ exec-made (StoreTo w) s m = refl
 exec-made LoadHighC s m = refl
 exec-made (LoadFrom w) s m = refl
 exec-made (Jump w) s m = refl
-exec-made (Rotate r o) s m = updated-made o _ s m
-exec-made (Bit k o) s m = refl
-exec-made (Res k o) s m = placed-made o _ s m
-exec-made (Set k o) s m = placed-made o _ s m
+exec-made (Rotate r p) s m = updated-made p _ s m
+exec-made (Bit k p) s m = refl
+exec-made (Res k p) s m = placed-made p _ s m
+exec-made (Set k p) s m = placed-made p _ s m
 exec-made Di s m = refl
 exec-made Ei s m = refl
 exec-made (CallIf cc w) s m = called-made (metOf cc (s .f)) w s m
@@ -253,11 +268,16 @@ unfolding callStores pushStores
 call-few true s = omega arith
 call-few false s = omega arith
 
-place-few : (o : Operand) (v : ℕ) (s : Cpu) → length (placeStores o v s) ≤ 1
+place-few : (p : Place) (v : ℕ) (s : Cpu) → length (placeStores p v s) ≤ 1
 unfolding placeStores
-place-few (Reg r) v s = omega arith
-place-few AtHl v s = omega arith
-place-few (Const k) v s = omega arith
+place-few place.B v s = omega arith
+place-few place.C v s = omega arith
+place-few place.D v s = omega arith
+place-few place.E v s = omega arith
+place-few place.H v s = omega arith
+place-few place.L v s = omega arith
+place-few place.AtHl v s = omega arith
+place-few place.A v s = omega arith
 
 exec-few : (i : Insn) (s : Cpu) (m : List ℕ) → length (execStores i s m) ≤ 2
 unfolding execStores callStores pushStores
@@ -266,15 +286,15 @@ exec-few (StoreSp w) s m = omega arith
 exec-few Stop s m = omega arith
 exec-few (Jr e) s m = omega arith
 exec-few (JrIf cc e) s m = omega arith
-exec-few (LoadPair rp w) s m = omega arith
+exec-few (LoadPair w rp) s m = omega arith
 exec-few (AddHl rp) s m = omega arith
 exec-few (StoreAt p) s m = omega arith
 exec-few (LoadAt p) s m = omega arith
 exec-few (IncPair rp) s m = omega arith
 exec-few (DecPair rp) s m = omega arith
-exec-few (Inc o) s m = le-trans (place-few o _ s) (omega arith)
-exec-few (Dec o) s m = le-trans (place-few o _ s) (omega arith)
-exec-few (Load d o) s m = le-trans (place-few d _ s) (omega arith)
+exec-few (Inc p) s m = le-trans (place-few p _ s) (omega arith)
+exec-few (Dec p) s m = le-trans (place-few p _ s) (omega arith)
+exec-few (Load p o) s m = le-trans (place-few p _ s) (omega arith)
 exec-few (RotateA r) s m = omega arith
 exec-few Daa s m = omega arith
 exec-few Cpl s m = omega arith
@@ -298,10 +318,10 @@ exec-few (StoreTo w) s m = omega arith
 exec-few LoadHighC s m = omega arith
 exec-few (LoadFrom w) s m = omega arith
 exec-few (Jump w) s m = omega arith
-exec-few (Rotate r o) s m = le-trans (place-few o _ s) (omega arith)
-exec-few (Bit k o) s m = omega arith
-exec-few (Res k o) s m = le-trans (place-few o _ s) (omega arith)
-exec-few (Set k o) s m = le-trans (place-few o _ s) (omega arith)
+exec-few (Rotate r p) s m = le-trans (place-few p _ s) (omega arith)
+exec-few (Bit k p) s m = omega arith
+exec-few (Res k p) s m = le-trans (place-few p _ s) (omega arith)
+exec-few (Set k p) s m = le-trans (place-few p _ s) (omega arith)
 exec-few Di s m = omega arith
 exec-few Ei s m = omega arith
 exec-few (CallIf cc w) s m = call-few (metOf cc (s .f)) s

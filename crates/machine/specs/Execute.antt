@@ -13,13 +13,14 @@ use Rattle.arith.specs.Words.{further, back, offsetOf, addedHlOf, addedSpOf}
 use Rattle.arith.specs.declared.Byte.{Byte}
 use Rattle.insn.specs.declared.Pointer.{Pointer}
 use Rattle.insn.specs.declared.Pair.{Pair}
+use Rattle.insn.specs.Grid.{operandOf}
 use Rattle.insn.specs.declared.Insn.{Insn}
 use Rattle.insn.specs.declared.Insn.the-variants.{Nop, StoreSp, Stop, Jr, JrIf, LoadPair, AddHl, StoreAt, LoadAt, IncPair, DecPair, Inc, Dec, Load, RotateA, Daa, Cpl, Scf, Ccf, Halt, Math, RetIf, StoreHigh, AddSp, LoadHigh, LoadHlSp, Pop, Ret, Reti, JumpHl, LoadSpHl, JumpIf, StoreHighC, StoreTo, LoadHighC, LoadFrom, Jump, Rotate, Bit, Res, Set, Di, Ei, CallIf, Push, Call, Rst, Undefined}
 use Rattle.machine.specs.Answers.{With, keeping}
 use Rattle.machine.specs.State.{withF, withAf, withSp, withPc, withIme, withMode, regOf, withReg, hlOf, setHl, pairOf, withPair, stackedOf, withStacked, metOf}
 use Rattle.machine.specs.Memory.{byteAt, stored, wordAt, storedWord, pendingOf}
 use Rattle.machine.specs.Stack.{pushedOf, returnedTo, calledOf}
-use Rattle.machine.specs.Operands.{valueOf, placedOf, updatedOf, pointedOf, movedOf}
+use Rattle.machine.specs.Operands.{valueOf, heldOf, placedOf, updatedOf, pointedOf, movedOf}
 use Rattle.machine.specs.declared.Ime.{Ime}
 use Rattle.machine.specs.declared.Ime.the-variants.{Off, Arming, On}
 use Rattle.machine.specs.declared.Mode.{Mode}
@@ -110,15 +111,15 @@ execOf (StoreSp w) s m = storing (record { out = s; mem = storedWord m w (s .sp)
 execOf Stop s m = plainly (withMode Stopped s) m
 execOf (Jr e) s m = plainly (withPc (offsetOf e (s .pc)) s) m
 execOf (JrIf cc e) s m = keeping (jumpedIf (metOf cc (s .f)) (offsetOf e (s .pc)) s) m
-execOf (LoadPair rp w) s m = plainly (withPair rp w s) m
+execOf (LoadPair w rp) s m = plainly (withPair rp w s) m
 execOf (AddHl rp) s m = plainly (addedToHlOf rp s) m
 execOf (StoreAt p) s m = storing (storedAtOf p s m)
 execOf (LoadAt p) s m = plainly (movedOf p (loadedFrom (pointedOf p s) s m)) m
 execOf (IncPair rp) s m = plainly (withPair rp (further 1 (pairOf rp s)) s) m
 execOf (DecPair rp) s m = plainly (withPair rp (back 1 (pairOf rp s)) s) m
-execOf (Inc o) s m = storing (updatedOf o (increasedOf (valueOf o s m) (s .f)) s m)
-execOf (Dec o) s m = storing (updatedOf o (decreasedOf (valueOf o s m) (s .f)) s m)
-execOf (Load d o) s m = storing (placedOf d (valueOf o s m) s m)
+execOf (Inc p) s m = storing (updatedOf p (increasedOf (heldOf p s m) (s .f)) s m)
+execOf (Dec p) s m = storing (updatedOf p (decreasedOf (heldOf p s m) (s .f)) s m)
+execOf (Load p o) s m = storing (placedOf p (valueOf o s m) s m)
 execOf (RotateA r) s m = plainly (resultOf (rotationAOf r (s .a) (cOf (s .f))) s) m
 execOf Daa s m = plainly (resultOf (decimalOf (s .a) (s .f)) s) m
 execOf Cpl s m = plainly (complementedOf s) m
@@ -142,10 +143,10 @@ execOf (StoreTo w) s m = storing (record { out = s; mem = stored m w (s .a) })
 execOf LoadHighC s m = plainly (loadedFrom (highAddress (s .c)) s m) m
 execOf (LoadFrom w) s m = plainly (loadedFrom w s m) m
 execOf (Jump w) s m = plainly (withPc w s) m
-execOf (Rotate r o) s m = storing (updatedOf o (rotationOf r (valueOf o s m) (cOf (s .f))) s m)
-execOf (Bit k o) s m = plainly (withF (testedOf k (valueOf o s m) (s .f)) s) m
-execOf (Res k o) s m = storing (placedOf o (resetOf k (valueOf o s m)) s m)
-execOf (Set k o) s m = storing (placedOf o (setOf k (valueOf o s m)) s m)
+execOf (Rotate r p) s m = storing (updatedOf p (rotationOf r (heldOf p s m) (cOf (s .f))) s m)
+execOf (Bit k p) s m = plainly (withF (testedOf k (heldOf p s m) (s .f)) s) m
+execOf (Res k p) s m = storing (placedOf p (resetOf k (heldOf p s m)) s m)
+execOf (Set k p) s m = storing (placedOf p (setOf k (heldOf p s m)) s m)
 execOf Di s m = plainly (withIme Off s) m
 execOf Ei s m = plainly (withIme (armedOf (s .ime)) s) m
 execOf (CallIf cc w) s m = calledIf (metOf cc (s .f)) w s m
@@ -156,5 +157,5 @@ execOf Undefined s m = plainly s m
 
 -- opens what the instructions do in a proof
 unfoldable pub acts : Unit {0}
-unfolding regOf withReg hlOf setHl pairOf withPair stackedOf withStacked metOf wordAt storedWord pushedOf returnedTo calledOf valueOf placedOf updatedOf pointedOf movedOf resultOf addedToHlOf addedToSpOf hlFromSpOf jumpedIf calledIf returnedIf storedAtOf loadedFrom highAddress complementedOf withCarryOf armedOf isOff haltMode haltedOf execOf
+unfolding regOf withReg hlOf setHl pairOf withPair stackedOf withStacked metOf wordAt storedWord pushedOf returnedTo calledOf operandOf valueOf heldOf placedOf updatedOf pointedOf movedOf resultOf addedToHlOf addedToSpOf hlFromSpOf jumpedIf calledIf returnedIf storedAtOf loadedFrom highAddress complementedOf withCarryOf armedOf isOff haltMode haltedOf execOf
 acts = tt

@@ -3,6 +3,7 @@ use crate::Cpu;
 use crate::memory;
 use arith::words;
 use insn::Operand;
+use insn::Place;
 use insn::Pointer;
 use insn::Stacked;
 ghost use mathlib.Core.Path.{_≡_};
@@ -23,12 +24,12 @@ pub(crate) fn high(n: u8) -> u16
 }
 
 impl Cpu {
-    pub(crate) fn load(self, d: Operand, o: Operand, mem: &mut [u8]) -> Cpu
+    pub(crate) fn load(self, p: Place, o: Operand, mem: &mut [u8]) -> Cpu
         requires { ⌜ length (now mem) ≡ 65536 ⌝ }
-        ensures { λ r. ⌜ Gives (placedOf d (valueOf o self (now (mem .entry))) self (now (mem .entry))) r (now (mem .exit)) ⌝ }
+        ensures { λ r. ⌜ Gives (placedOf p (valueOf o self (now (mem .entry))) self (now (mem .entry))) r (now (mem .exit)) ⌝ }
     {
         let v = self.value(o, &*mem);
-        self.place(d, v, mem)
+        self.place(p, v, mem)
     }
 
     // A stored through a pointer.

@@ -1,4 +1,4 @@
-// Arithmetic, rotates and bits: an operand is read, reckoned with and put back.
+// Arithmetic, rotates and bits: an operand is read and reckoned with, a place put back.
 use crate::Cpu;
 use arith::Alu;
 use arith::Rot;
@@ -9,6 +9,7 @@ use arith::rotates;
 use arith::words;
 use insn::Operand;
 use insn::Pair;
+use insn::Place;
 ghost use mathlib.Core.Path.{_≡_};
 ghost use lib.ListN.{length};
 ghost use mathlib.Core.Bool.{Bool, true, not};
@@ -19,7 +20,7 @@ ghost use Rattle.arith.specs.Rotates.{rotationOf, rotationAOf};
 ghost use Rattle.arith.specs.Words.{further, back};
 ghost use Rattle.machine.specs.Answers.{Gives};
 ghost use Rattle.machine.specs.Execute.{resultOf, addedToHlOf, addedToSpOf, complementedOf, withCarryOf};
-ghost use Rattle.machine.specs.Operands.{valueOf, placedOf, updatedOf};
+ghost use Rattle.machine.specs.Operands.{valueOf, heldOf, placedOf, updatedOf};
 ghost use Rattle.machine.specs.State.{withF, pairOf, withPair};
 
 impl Cpu {
@@ -30,51 +31,51 @@ impl Cpu {
         self.with_result(bytes::operate(op, self.a, self.value(o, mem), self.f))
     }
 
-    pub(crate) fn increase(self, o: Operand, mem: &mut [u8]) -> Cpu
+    pub(crate) fn increase(self, p: Place, mem: &mut [u8]) -> Cpu
         requires { ⌜ length (now mem) ≡ 65536 ⌝ }
-        ensures { λ r. ⌜ Gives (updatedOf o (increasedOf (valueOf o self (now (mem .entry))) (self .f)) self (now (mem .entry))) r (now (mem .exit)) ⌝ }
+        ensures { λ r. ⌜ Gives (updatedOf p (increasedOf (heldOf p self (now (mem .entry))) (self .f)) self (now (mem .entry))) r (now (mem .exit)) ⌝ }
     {
-        let v = self.value(o, &*mem);
-        self.update(o, bytes::increase(v, self.f), mem)
+        let v = self.held(p, &*mem);
+        self.update(p, bytes::increase(v, self.f), mem)
     }
 
-    pub(crate) fn decrease(self, o: Operand, mem: &mut [u8]) -> Cpu
+    pub(crate) fn decrease(self, p: Place, mem: &mut [u8]) -> Cpu
         requires { ⌜ length (now mem) ≡ 65536 ⌝ }
-        ensures { λ r. ⌜ Gives (updatedOf o (decreasedOf (valueOf o self (now (mem .entry))) (self .f)) self (now (mem .entry))) r (now (mem .exit)) ⌝ }
+        ensures { λ r. ⌜ Gives (updatedOf p (decreasedOf (heldOf p self (now (mem .entry))) (self .f)) self (now (mem .entry))) r (now (mem .exit)) ⌝ }
     {
-        let v = self.value(o, &*mem);
-        self.update(o, bytes::decrease(v, self.f), mem)
+        let v = self.held(p, &*mem);
+        self.update(p, bytes::decrease(v, self.f), mem)
     }
 
-    pub(crate) fn rotate(self, op: Rot, o: Operand, mem: &mut [u8]) -> Cpu
+    pub(crate) fn rotate(self, op: Rot, p: Place, mem: &mut [u8]) -> Cpu
         requires { ⌜ length (now mem) ≡ 65536 ⌝ }
-        ensures { λ r. ⌜ Gives (updatedOf o (rotationOf op (valueOf o self (now (mem .entry))) (cOf (self .f))) self (now (mem .entry))) r (now (mem .exit)) ⌝ }
+        ensures { λ r. ⌜ Gives (updatedOf p (rotationOf op (heldOf p self (now (mem .entry))) (cOf (self .f))) self (now (mem .entry))) r (now (mem .exit)) ⌝ }
     {
-        let v = self.value(o, &*mem);
-        self.update(o, rotates::rotate(op, v, flags::carry(self.f)), mem)
+        let v = self.held(p, &*mem);
+        self.update(p, rotates::rotate(op, v, flags::carry(self.f)), mem)
     }
 
-    pub(crate) fn reset(self, k: u8, o: Operand, mem: &mut [u8]) -> Cpu
+    pub(crate) fn reset(self, k: u8, p: Place, mem: &mut [u8]) -> Cpu
         requires { ⌜ length (now mem) ≡ 65536 ⌝ }
-        ensures { λ r. ⌜ Gives (placedOf o (resetOf k (valueOf o self (now (mem .entry)))) self (now (mem .entry))) r (now (mem .exit)) ⌝ }
+        ensures { λ r. ⌜ Gives (placedOf p (resetOf k (heldOf p self (now (mem .entry)))) self (now (mem .entry))) r (now (mem .exit)) ⌝ }
     {
-        let v = self.value(o, &*mem);
-        self.place(o, bytes::reset(k, v), mem)
+        let v = self.held(p, &*mem);
+        self.place(p, bytes::reset(k, v), mem)
     }
 
-    pub(crate) fn set(self, k: u8, o: Operand, mem: &mut [u8]) -> Cpu
+    pub(crate) fn set(self, k: u8, p: Place, mem: &mut [u8]) -> Cpu
         requires { ⌜ length (now mem) ≡ 65536 ⌝ }
-        ensures { λ r. ⌜ Gives (placedOf o (setOf k (valueOf o self (now (mem .entry)))) self (now (mem .entry))) r (now (mem .exit)) ⌝ }
+        ensures { λ r. ⌜ Gives (placedOf p (setOf k (heldOf p self (now (mem .entry)))) self (now (mem .entry))) r (now (mem .exit)) ⌝ }
     {
-        let v = self.value(o, &*mem);
-        self.place(o, bytes::set(k, v), mem)
+        let v = self.held(p, &*mem);
+        self.place(p, bytes::set(k, v), mem)
     }
 
-    pub(crate) fn test(self, k: u8, o: Operand, mem: &[u8]) -> Cpu
+    pub(crate) fn test(self, k: u8, p: Place, mem: &[u8]) -> Cpu
         requires { ⌜ length (now mem) ≡ 65536 ⌝ }
-        ensures { λ r. ⌜ r ≡ withF (testedOf k (valueOf o self (now (mem .entry))) (self .f)) self ⌝ }
+        ensures { λ r. ⌜ r ≡ withF (testedOf k (heldOf p self (now (mem .entry))) (self .f)) self ⌝ }
     {
-        self.with_f(bytes::test(k, self.value(o, mem), self.f))
+        self.with_f(bytes::test(k, self.held(p, mem), self.f))
     }
 
     pub(crate) fn rotate_a(self, op: Rot) -> Cpu

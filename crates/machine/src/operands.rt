@@ -1,14 +1,33 @@
-// Operands: a register, the byte at HL, or a constant; and the places that A goes through.
+// Operands: a register, the byte at HL, or a constant; the places that bytes are put into; and the pointers that A goes through.
 use crate::Cpu;
 use crate::memory;
 use arith::Byte;
 use arith::words;
 use insn::Operand;
+use insn::Place;
 use insn::Pointer;
+use insn::Register;
 ghost use mathlib.Core.Path.{_≡_};
 ghost use lib.ListN.{length};
+ghost use Rattle.insn.specs.Grid.{operandOf};
 ghost use Rattle.machine.specs.Answers.{Gives};
-ghost use Rattle.machine.specs.Operands.{valueOf, placedOf, updatedOf, pointedOf, movedOf};
+ghost use Rattle.machine.specs.Operands.{valueOf, heldOf, placedOf, updatedOf, pointedOf, movedOf};
+
+// A place as an operand.
+fn operand(p: Place) -> Operand
+    ensures { λ r. ⌜ r ≡ operandOf p ⌝ }
+{
+    match p {
+        Place::B => Operand::Reg(Register::B),
+        Place::C => Operand::Reg(Register::C),
+        Place::D => Operand::Reg(Register::D),
+        Place::E => Operand::Reg(Register::E),
+        Place::H => Operand::Reg(Register::H),
+        Place::L => Operand::Reg(Register::L),
+        Place::AtHl => Operand::AtHl,
+        Place::A => Operand::Reg(Register::A),
+    }
+}
 
 impl Cpu {
     pub(crate) fn value(self, o: Operand, mem: &[u8]) -> u8
@@ -22,27 +41,40 @@ impl Cpu {
         }
     }
 
-    // A byte put where an operand stands.
-    pub(crate) fn place(self, o: Operand, v: u8, mem: &mut [u8]) -> Cpu
+    // The byte in a place.
+    pub(crate) fn held(self, p: Place, mem: &[u8]) -> u8
         requires { ⌜ length (now mem) ≡ 65536 ⌝ }
-        ensures { λ r. ⌜ Gives (placedOf o v self (now (mem .entry))) r (now (mem .exit)) ⌝ }
+        ensures { λ r. ⌜ r ≡ heldOf p self (now (mem .entry)) ⌝ }
     {
-        match o {
-            Operand::Reg(r) => self.with_register(r, v),
-            Operand::AtHl => {
+        self.value(operand(p), mem)
+    }
+
+    // A byte put into a place.
+    pub(crate) fn place(self, p: Place, v: u8, mem: &mut [u8]) -> Cpu
+        requires { ⌜ length (now mem) ≡ 65536 ⌝ }
+        ensures { λ r. ⌜ Gives (placedOf p v self (now (mem .entry))) r (now (mem .exit)) ⌝ }
+    {
+        match p {
+            Place::B => self.with_register(Register::B, v),
+            Place::C => self.with_register(Register::C, v),
+            Place::D => self.with_register(Register::D, v),
+            Place::E => self.with_register(Register::E, v),
+            Place::H => self.with_register(Register::H, v),
+            Place::L => self.with_register(Register::L, v),
+            Place::AtHl => {
                 memory::store(mem, self.hl(), v);
                 Cpu { ..self }
             }
-            Operand::Const(_) => Cpu { ..self },
+            Place::A => self.with_register(Register::A, v),
         }
     }
 
-    // A result put back where its operand stands, with its F.
-    pub(crate) fn update(self, o: Operand, r: Byte, mem: &mut [u8]) -> Cpu
+    // A result put back into its place, with its F.
+    pub(crate) fn update(self, p: Place, r: Byte, mem: &mut [u8]) -> Cpu
         requires { ⌜ length (now mem) ≡ 65536 ⌝ }
-        ensures { λ n. ⌜ Gives (updatedOf o r self (now (mem .entry))) n (now (mem .exit)) ⌝ }
+        ensures { λ n. ⌜ Gives (updatedOf p r self (now (mem .entry))) n (now (mem .exit)) ⌝ }
     {
-        self.with_f(r.flags).place(o, r.value, mem)
+        self.with_f(r.flags).place(p, r.value, mem)
     }
 
     // The address in a pointer.

@@ -1,8 +1,8 @@
--- `insn::prefixed::operand` meets its contract: each arm is the list's entry. Assumes nothing.
+-- `insn::prefixed::place` meets its contract: each arm is the list's entry. Assumes nothing.
 use Rattle.insn.specs.Grid.{rAt}
 use Rattle.insn.proofs.Last.{last}
-use Rattle.insn.proofs.prefixed.operand.Statement.{statement}
-use Rattle.insn.proofs.prefixed.operand.Tie as tie
+use Rattle.insn.proofs.prefixed.place.Statement.{statement}
+use Rattle.insn.proofs.prefixed.place.Tie as tie
 
 returns : tie.Need-returns
 unfolding rAt
@@ -36,5 +36,5 @@ returns-8 : tie.Need-returns-8
 unfolding rAt
 returns-8 c = rw (last 7 _ (c .before .pre) (c .match .rest))
 
-pub operand-spec : {M : Type 1} → statement M
-operand-spec = tie.close (tie.spec returns returns-2 returns-3 returns-4 returns-5 returns-6 returns-7 returns-8)
+pub place-spec : {M : Type 1} → statement M
+place-spec = tie.close (tie.spec returns returns-2 returns-3 returns-4 returns-5 returns-6 returns-7 returns-8)
