@@ -1,58 +1,11 @@
 -- `insn::rows::row_1` meets its contract: each arm is the grid's entry, which antt computes. Assumes nothing.
+use borrow.Author.Needs.{needs}
 use Rattle.insn.specs.Grid.{grid}
 use Rattle.insn.specs.Shapes.{shapes}
 use Rattle.insn.proofs.Last.{last-of}
 use Rattle.insn.proofs.Told.{told}
 use Rattle.insn.proofs.rows.row_1.Statement.{statement}
 use Rattle.insn.proofs.rows.row_1.Tie as tie
-
-given-requires : tie.Need-given-requires
-given-requires c κs = tt
-
-load-pair-requires : tie.Need-load-pair-requires
-load-pair-requires c κs = tt
-
-store-at-requires : tie.Need-store-at-requires
-store-at-requires c κs = tt
-
-inc-pair-requires : tie.Need-inc-pair-requires
-inc-pair-requires c κs = tt
-
-inc-requires : tie.Need-inc-requires
-inc-requires c κs = tt
-
-dec-requires : tie.Need-dec-requires
-dec-requires c κs = tt
-
-load-const-requires : tie.Need-load-const-requires
-load-const-requires c κs = tt
-
-rotate-a-requires : tie.Need-rotate-a-requires
-rotate-a-requires c κs = tt
-
-given-requires-2 : tie.Need-given-requires-2
-given-requires-2 c κs = tt
-
-add-hl-requires : tie.Need-add-hl-requires
-add-hl-requires c κs = tt
-
-load-at-requires : tie.Need-load-at-requires
-load-at-requires c κs = tt
-
-dec-pair-requires : tie.Need-dec-pair-requires
-dec-pair-requires c κs = tt
-
-inc-requires-2 : tie.Need-inc-requires-2
-inc-requires-2 c κs = tt
-
-dec-requires-2 : tie.Need-dec-requires-2
-dec-requires-2 c κs = tt
-
-load-const-requires-2 : tie.Need-load-const-requires-2
-load-const-requires-2 c κs = tt
-
-rotate-a-requires-2 : tie.Need-rotate-a-requires-2
-rotate-a-requires-2 c κs = tt
 
 returns : tie.Need-returns
 unfolding grid shapes
@@ -119,4 +72,4 @@ unfolding grid shapes
 returns-16 c = told _ _ (last-of 1 _ (c .before .before .pre) (c .before .match .rest)) (c .rotate-a2 .ensures)
 
 pub row-1-spec : {M : Type 1} → statement M
-row-1-spec = tie.close (tie.spec given-requires load-pair-requires store-at-requires inc-pair-requires inc-requires dec-requires load-const-requires rotate-a-requires given-requires-2 add-hl-requires load-at-requires dec-pair-requires inc-requires-2 dec-requires-2 load-const-requires-2 rotate-a-requires-2 returns returns-2 returns-3 returns-4 returns-5 returns-6 returns-7 returns-8 returns-9 returns-10 returns-11 returns-12 returns-13 returns-14 returns-15 returns-16)
+row-1-spec = tie.close (tie.spec (search needs) (search needs) (search needs) (search needs) (search needs) (search needs) (search needs) (search needs) (search needs) (search needs) (search needs) (search needs) (search needs) (search needs) (search needs) (search needs) returns returns-2 returns-3 returns-4 returns-5 returns-6 returns-7 returns-8 returns-9 returns-10 returns-11 returns-12 returns-13 returns-14 returns-15 returns-16)

@@ -1,58 +1,11 @@
 -- `insn::rows::row_4` meets its contract: each arm is the grid's entry, which antt computes. Assumes nothing.
+use borrow.Author.Needs.{needs}
 use Rattle.insn.specs.Grid.{grid}
 use Rattle.insn.specs.Shapes.{shapes}
 use Rattle.insn.proofs.Last.{last-of}
 use Rattle.insn.proofs.Told.{told}
 use Rattle.insn.proofs.rows.row_4.Statement.{statement}
 use Rattle.insn.proofs.rows.row_4.Tie as tie
-
-load-requires : tie.Need-load-requires
-load-requires c κs = tt
-
-load-requires-2 : tie.Need-load-requires-2
-load-requires-2 c κs = tt
-
-load-requires-3 : tie.Need-load-requires-3
-load-requires-3 c κs = tt
-
-load-requires-4 : tie.Need-load-requires-4
-load-requires-4 c κs = tt
-
-load-requires-5 : tie.Need-load-requires-5
-load-requires-5 c κs = tt
-
-load-requires-6 : tie.Need-load-requires-6
-load-requires-6 c κs = tt
-
-load-hl-requires : tie.Need-load-hl-requires
-load-hl-requires c κs = tt
-
-load-requires-7 : tie.Need-load-requires-7
-load-requires-7 c κs = tt
-
-load-requires-8 : tie.Need-load-requires-8
-load-requires-8 c κs = tt
-
-load-requires-9 : tie.Need-load-requires-9
-load-requires-9 c κs = tt
-
-load-requires-10 : tie.Need-load-requires-10
-load-requires-10 c κs = tt
-
-load-requires-11 : tie.Need-load-requires-11
-load-requires-11 c κs = tt
-
-load-requires-12 : tie.Need-load-requires-12
-load-requires-12 c κs = tt
-
-load-requires-13 : tie.Need-load-requires-13
-load-requires-13 c κs = tt
-
-load-hl-requires-2 : tie.Need-load-hl-requires-2
-load-hl-requires-2 c κs = tt
-
-load-requires-14 : tie.Need-load-requires-14
-load-requires-14 c κs = tt
 
 returns : tie.Need-returns
 unfolding grid shapes
@@ -119,4 +72,4 @@ unfolding grid shapes
 returns-16 c = told _ _ (last-of 4 _ (c .before .before .pre) (c .before .match .rest)) (c .load14 .ensures)
 
 pub row-4-spec : {M : Type 1} → statement M
-row-4-spec = tie.close (tie.spec load-requires load-requires-2 load-requires-3 load-requires-4 load-requires-5 load-requires-6 load-hl-requires load-requires-7 load-requires-8 load-requires-9 load-requires-10 load-requires-11 load-requires-12 load-requires-13 load-hl-requires-2 load-requires-14 returns returns-2 returns-3 returns-4 returns-5 returns-6 returns-7 returns-8 returns-9 returns-10 returns-11 returns-12 returns-13 returns-14 returns-15 returns-16)
+row-4-spec = tie.close (tie.spec (search needs) (search needs) (search needs) (search needs) (search needs) (search needs) (search needs) (search needs) (search needs) (search needs) (search needs) (search needs) (search needs) (search needs) (search needs) (search needs) returns returns-2 returns-3 returns-4 returns-5 returns-6 returns-7 returns-8 returns-9 returns-10 returns-11 returns-12 returns-13 returns-14 returns-15 returns-16)

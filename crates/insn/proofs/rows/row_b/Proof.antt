@@ -1,58 +1,11 @@
 -- `insn::rows::row_b` meets its contract: each arm is the grid's entry, which antt computes. Assumes nothing.
+use borrow.Author.Needs.{needs}
 use Rattle.insn.specs.Grid.{grid}
 use Rattle.insn.specs.Shapes.{shapes}
 use Rattle.insn.proofs.Last.{last-of}
 use Rattle.insn.proofs.Told.{told}
 use Rattle.insn.proofs.rows.row_b.Statement.{statement}
 use Rattle.insn.proofs.rows.row_b.Tie as tie
-
-math-requires : tie.Need-math-requires
-math-requires c κs = tt
-
-math-requires-2 : tie.Need-math-requires-2
-math-requires-2 c κs = tt
-
-math-requires-3 : tie.Need-math-requires-3
-math-requires-3 c κs = tt
-
-math-requires-4 : tie.Need-math-requires-4
-math-requires-4 c κs = tt
-
-math-requires-5 : tie.Need-math-requires-5
-math-requires-5 c κs = tt
-
-math-requires-6 : tie.Need-math-requires-6
-math-requires-6 c κs = tt
-
-math-hl-requires : tie.Need-math-hl-requires
-math-hl-requires c κs = tt
-
-math-requires-7 : tie.Need-math-requires-7
-math-requires-7 c κs = tt
-
-math-requires-8 : tie.Need-math-requires-8
-math-requires-8 c κs = tt
-
-math-requires-9 : tie.Need-math-requires-9
-math-requires-9 c κs = tt
-
-math-requires-10 : tie.Need-math-requires-10
-math-requires-10 c κs = tt
-
-math-requires-11 : tie.Need-math-requires-11
-math-requires-11 c κs = tt
-
-math-requires-12 : tie.Need-math-requires-12
-math-requires-12 c κs = tt
-
-math-requires-13 : tie.Need-math-requires-13
-math-requires-13 c κs = tt
-
-math-hl-requires-2 : tie.Need-math-hl-requires-2
-math-hl-requires-2 c κs = tt
-
-math-requires-14 : tie.Need-math-requires-14
-math-requires-14 c κs = tt
 
 returns : tie.Need-returns
 unfolding grid shapes
@@ -119,4 +72,4 @@ unfolding grid shapes
 returns-16 c = told _ _ (last-of 11 _ (c .before .before .pre) (c .before .match .rest)) (c .math14 .ensures)
 
 pub row-b-spec : {M : Type 1} → statement M
-row-b-spec = tie.close (tie.spec math-requires math-requires-2 math-requires-3 math-requires-4 math-requires-5 math-requires-6 math-hl-requires math-requires-7 math-requires-8 math-requires-9 math-requires-10 math-requires-11 math-requires-12 math-requires-13 math-hl-requires-2 math-requires-14 returns returns-2 returns-3 returns-4 returns-5 returns-6 returns-7 returns-8 returns-9 returns-10 returns-11 returns-12 returns-13 returns-14 returns-15 returns-16)
+row-b-spec = tie.close (tie.spec (search needs) (search needs) (search needs) (search needs) (search needs) (search needs) (search needs) (search needs) (search needs) (search needs) (search needs) (search needs) (search needs) (search needs) (search needs) (search needs) returns returns-2 returns-3 returns-4 returns-5 returns-6 returns-7 returns-8 returns-9 returns-10 returns-11 returns-12 returns-13 returns-14 returns-15 returns-16)

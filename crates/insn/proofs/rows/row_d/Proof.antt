@@ -1,58 +1,11 @@
 -- `insn::rows::row_d` meets its contract: each arm is the grid's entry, which antt computes. Assumes nothing.
+use borrow.Author.Needs.{needs}
 use Rattle.insn.specs.Grid.{grid}
 use Rattle.insn.specs.Shapes.{shapes}
 use Rattle.insn.proofs.Last.{last-of}
 use Rattle.insn.proofs.Told.{told}
 use Rattle.insn.proofs.rows.row_d.Statement.{statement}
 use Rattle.insn.proofs.rows.row_d.Tie as tie
-
-ret-if-requires : tie.Need-ret-if-requires
-ret-if-requires c κs = tt
-
-pop-requires : tie.Need-pop-requires
-pop-requires c κs = tt
-
-jump-if-requires : tie.Need-jump-if-requires
-jump-if-requires c κs = tt
-
-given-requires : tie.Need-given-requires
-given-requires c κs = tt
-
-call-if-requires : tie.Need-call-if-requires
-call-if-requires c κs = tt
-
-push-requires : tie.Need-push-requires
-push-requires c κs = tt
-
-math-const-requires : tie.Need-math-const-requires
-math-const-requires c κs = tt
-
-rst-requires : tie.Need-rst-requires
-rst-requires c κs = tt
-
-ret-if-requires-2 : tie.Need-ret-if-requires-2
-ret-if-requires-2 c κs = tt
-
-given-requires-2 : tie.Need-given-requires-2
-given-requires-2 c κs = tt
-
-jump-if-requires-2 : tie.Need-jump-if-requires-2
-jump-if-requires-2 c κs = tt
-
-given-requires-3 : tie.Need-given-requires-3
-given-requires-3 c κs = tt
-
-call-if-requires-2 : tie.Need-call-if-requires-2
-call-if-requires-2 c κs = tt
-
-given-requires-4 : tie.Need-given-requires-4
-given-requires-4 c κs = tt
-
-math-const-requires-2 : tie.Need-math-const-requires-2
-math-const-requires-2 c κs = tt
-
-rst-requires-2 : tie.Need-rst-requires-2
-rst-requires-2 c κs = tt
 
 returns : tie.Need-returns
 unfolding grid shapes
@@ -119,4 +72,4 @@ unfolding grid shapes
 returns-16 c = told _ _ (last-of 13 _ (c .before .before .pre) (c .before .match .rest)) (c .rst2 .ensures)
 
 pub row-d-spec : {M : Type 1} → statement M
-row-d-spec = tie.close (tie.spec ret-if-requires pop-requires jump-if-requires given-requires call-if-requires push-requires math-const-requires rst-requires ret-if-requires-2 given-requires-2 jump-if-requires-2 given-requires-3 call-if-requires-2 given-requires-4 math-const-requires-2 rst-requires-2 returns returns-2 returns-3 returns-4 returns-5 returns-6 returns-7 returns-8 returns-9 returns-10 returns-11 returns-12 returns-13 returns-14 returns-15 returns-16)
+row-d-spec = tie.close (tie.spec (search needs) (search needs) (search needs) (search needs) (search needs) (search needs) (search needs) (search needs) (search needs) (search needs) (search needs) (search needs) (search needs) (search needs) (search needs) (search needs) returns returns-2 returns-3 returns-4 returns-5 returns-6 returns-7 returns-8 returns-9 returns-10 returns-11 returns-12 returns-13 returns-14 returns-15 returns-16)
