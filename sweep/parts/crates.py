@@ -36,9 +36,11 @@ def below(name, crates):
     return reached
 
 
-def write_list(folder, crates):
-    lines = [f"{name}: {' '.join(below)}".rstrip() for name, below in crates.items()]
-    (folder / "crates.txt").write_text("\n".join(lines) + "\n")
+def write_list(folder, names, root):
+    """The lines of crates.txt for these crates, as they stand there."""
+    lines = (root / "crates.txt").read_text().split("\n")
+    kept = [line for line in lines if line.split("#")[0].partition(":")[0].strip() in names]
+    (folder / "crates.txt").write_text("\n".join(kept) + "\n")
 
 
 def cited(texts, module):
@@ -109,4 +111,4 @@ def copy_under(folder, top, root=ROOT, whole=None):
             (target / "proofs/Lib.antt").write_text("".join(f"pub mod {file}\n" for file in kept))
             for file, text in kept.items():
                 (target / "proofs" / f"{file}.antt").write_text(text)
-    write_list(folder, {name: deps for name, deps in crates.items() if name == top or name in under})
+    write_list(folder, {top, *under}, root)
