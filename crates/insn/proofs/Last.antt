@@ -9,7 +9,7 @@ abbrev pub Passed : ℕ → ℕ → ℕ → Type 0
 Passed b zero x = Unit {0}
 Passed b (suc n) x = Passed b n x × (x ≡ b + n → ⊥)
 
-past : (b n x : ℕ) → b ≤ x → Passed b n x → b + n ≤ x
+pub past : (b n x : ℕ) → b ≤ x → Passed b n x → b + n ≤ x
 past b zero x h p = omega arith
 past b (suc n) x h p = let i : b + n ≤ x = past b n x h (p .0) in omega (arith, p .1)
 

@@ -9,8 +9,12 @@ use denote.Triple.Clauses.{AtExit}
 use denote.Ref.{now, ptr}
 use Rattle.saved.proofs.codes.ime_code.Kinds as ime-code-kinds
 use Rattle.saved.proofs.codes.ime_code.Reads as ime-code-reads
+use Rattle.saved.proofs.codes.ime_at.Kinds as ime-at-kinds
+use Rattle.saved.proofs.codes.ime_at.Reads as ime-at-reads
 use Rattle.saved.proofs.codes.mode_code.Kinds as mode-code-kinds
 use Rattle.saved.proofs.codes.mode_code.Reads as mode-code-reads
+use Rattle.saved.proofs.codes.mode_at.Kinds as mode-at-kinds
+use Rattle.saved.proofs.codes.mode_at.Reads as mode-at-reads
 use Rattle.saved.proofs.numbers.number.Kinds as number-kinds
 use Rattle.saved.proofs.numbers.number.Reads as number-reads
 use Rattle.saved.proofs.load_head.Kinds as load-head-kinds
@@ -35,10 +39,20 @@ pub ime-code-unique : (κs : Lfts 0) (a : Dens κs ime-code-kinds.ps) (r r′ : 
     → ime-code-reads.Post κs a r e → ime-code-reads.Post κs a r′ e′ → r ≡ r′
 ime-code-unique κs a r r′ e e′ p q = same p q
 
+pub ime-at-unique : (κs : Lfts 0) (a : Dens κs ime-at-kinds.ps) (r r′ : resT ime-at-kinds.r κs .Denot)
+    (e e′ : AtExit (endedOf 0 ime-at-kinds.ps ime-at-kinds.r) κs)
+    → ime-at-reads.Post κs a r e → ime-at-reads.Post κs a r′ e′ → r ≡ r′
+ime-at-unique κs a r r′ e e′ p q = same p q
+
 pub mode-code-unique : (κs : Lfts 0) (a : Dens κs mode-code-kinds.ps) (r r′ : resT mode-code-kinds.r κs .Denot)
     (e e′ : AtExit (endedOf 0 mode-code-kinds.ps mode-code-kinds.r) κs)
     → mode-code-reads.Post κs a r e → mode-code-reads.Post κs a r′ e′ → r ≡ r′
 mode-code-unique κs a r r′ e e′ p q = same p q
+
+pub mode-at-unique : (κs : Lfts 0) (a : Dens κs mode-at-kinds.ps) (r r′ : resT mode-at-kinds.r κs .Denot)
+    (e e′ : AtExit (endedOf 0 mode-at-kinds.ps mode-at-kinds.r) κs)
+    → mode-at-reads.Post κs a r e → mode-at-reads.Post κs a r′ e′ → r ≡ r′
+mode-at-unique κs a r r′ e e′ p q = same p q
 
 pub number-unique : (κs : Lfts 0) (a : Dens κs number-kinds.ps) (r r′ : resT number-kinds.r κs .Denot)
     (e e′ : AtExit (endedOf 0 number-kinds.ps number-kinds.r) κs)

@@ -14,8 +14,8 @@ pub fn ime_code(ime: Ime) -> u8
     }
 }
 
-// Codes above 2 are refused before.
-pub(crate) fn ime_at(code: u8) -> Ime
+// A code above 2 stands for none: callers refuse it before.
+pub fn ime_at(code: u8) -> Ime
     ensures { λ r. ⌜ r ≡ imeAt code ⌝ }
 {
     match code {
@@ -36,8 +36,8 @@ pub fn mode_code(mode: Mode) -> u8
     }
 }
 
-// Codes above 3 are refused before.
-pub(crate) fn mode_at(code: u8) -> Mode
+// A code above 3 stands for none: callers refuse it before.
+pub fn mode_at(code: u8) -> Mode
     ensures { λ r. ⌜ r ≡ modeAt code ⌝ }
 {
     match code {

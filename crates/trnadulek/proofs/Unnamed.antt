@@ -1,26 +1,18 @@
 -- Numbers that no arm of a match names: they are beyond those that do.
 -- Assumes nothing.
-use Prim.Native.Nat.{ℕ, zero, suc, _≤_}
+use Prim.Native.Nat.{ℕ}
 use mathlib.Core.List.{[]}
 use mathlib.Core.Path.{_≡_}
 use native.Mathlib.Omega.{arith}
 use lib.ListN.{List·getD-eq-default}
+use Rattle.insn.proofs.Last.{Passed, past}
 use Rattle.trnadulek.specs.Sizes.{sizes, sizeOf}
 use Rattle.trnadulek.specs.Words.{words, wordsOf}
 
--- x is none of the first n numbers
-abbrev pub Passed : ℕ → ℕ → Type 0
-Passed zero x = Unit {0}
-Passed (suc n) x = Passed n x × (x ≡ n → ⊥)
-
-past : (n x : ℕ) → Passed n x → n ≤ x
-past zero x p = omega arith
-past (suc n) x p = let below : n ≤ x = past n x (p .0) in omega (arith, p .1)
-
-pub sizeless : (x : ℕ) → Passed 5 x → sizeOf x ≡ 0
+pub sizeless : (x : ℕ) → Passed 0 5 x → sizeOf x ≡ 0
 unfolding sizes sizeOf
-sizeless x p = List·getD-eq-default sizes 0 (past 5 x p)
+sizeless x p = List·getD-eq-default sizes 0 (past 0 5 x (omega arith) p)
 
-pub wordless : (x : ℕ) → Passed 10 x → wordsOf x ≡ []
+pub wordless : (x : ℕ) → Passed 0 10 x → wordsOf x ≡ []
 unfolding words wordsOf
-wordless x p = List·getD-eq-default words [] (past 10 x p)
+wordless x p = List·getD-eq-default words [] (past 0 10 x (omega arith) p)

@@ -1,11 +1,8 @@
 // The state block: A F B C D E H L, SP, PC, the codes of IME and mode.
 use arith::words;
 use machine::Cpu;
-use machine::Ime;
-use machine::Mode;
 use saved::codes;
 ghost use mathlib.Core.Path.{_≡_};
-ghost use Rattle.saved.specs.Codes.{imeAt, modeAt};
 ghost use Rattle.saved.specs.Head.{blockOf};
 ghost use Rattle.trnadulek.specs.Block.{hasCodes, heldIn};
 
@@ -46,33 +43,12 @@ pub(crate) fn has_codes(block: &[u8; 14]) -> bool
     (block[12] <= 2) & (block[13] <= 3)
 }
 
-fn ime_at(code: u8) -> Ime
-    ensures { λ r. ⌜ r ≡ imeAt code ⌝ }
-{
-    match code {
-        0 => Ime::Off,
-        1 => Ime::Arming,
-        _ => Ime::On,
-    }
-}
-
-fn mode_at(code: u8) -> Mode
-    ensures { λ r. ⌜ r ≡ modeAt code ⌝ }
-{
-    match code {
-        0 => Mode::Running,
-        1 => Mode::Repeat,
-        2 => Mode::Halted,
-        _ => Mode::Stopped,
-    }
-}
-
 // The state that a block holds.
 pub(crate) fn state_of(block: &[u8; 14]) -> Cpu
     ensures { λ r. ⌜ r ≡ heldIn (now (block .entry)) ⌝ }
 {
-    let ime = ime_at(block[12]);
-    let mode = mode_at(block[13]);
+    let ime = codes::ime_at(block[12]);
+    let mode = codes::mode_at(block[13]);
     let sp = words::word(block[8], block[9]);
     let pc = words::word(block[10], block[11]);
     Cpu {
