@@ -1,85 +1,125 @@
 -- IME: Arming at the start of an instruction is On at its end, unless the instruction is DI, and then Off; what EI, DI and RETI
--- do; every other instruction leaves it. Document 01, "One step".
+-- do; every other instruction leaves it, so that Arming may be settled before the instruction. Document 01, "One step".
 -- Assumes nothing.
 use Prim.Native.Nat.{ℕ}
 use mathlib.Core.Bool.{false}
 use mathlib.Core.List.{List}
 use mathlib.Core.Logic.{_≢_}
-use mathlib.Core.Path.{_≡_, refl, _∙_}
+use mathlib.Core.Path.{_≡_, refl, _∙_, ap}
 use Rattle.insn.specs.declared.Insn.{Insn}
 use Rattle.insn.specs.declared.Insn.the-variants.{Nop, StoreSp, Stop, Jr, JrIf, LoadPair, AddHl, StoreAt, LoadAt, IncPair, DecPair, Inc, Dec, Load, RotateA, Daa, Cpl, Scf, Ccf, Halt, Math, RetIf, StoreHigh, AddSp, LoadHigh, LoadHlSp, Pop, Ret, Reti, JumpHl, LoadSpHl, JumpIf, StoreHighC, StoreTo, LoadHighC, LoadFrom, Jump, Rotate, Bit, Res, Set, Di, Ei, CallIf, Push, Call, Rst, Undefined}
-use Rattle.machine.specs.State.{setHl}
+use Rattle.machine.specs.Answers.{With}
+use Rattle.machine.specs.State.{withSp, withIme, hlOf, setHl}
 use Rattle.machine.specs.Stack.{pushedOf, returnedTo, calledOf}
-use Rattle.machine.specs.Execute.{armedOf, execOf, resultOf, addedToHlOf, addedToSpOf, hlFromSpOf, storedAtOf, loadedFrom, complementedOf, withCarryOf, haltedOf}
+use Rattle.machine.specs.Execute.{armedOf, isOff, execOf, resultOf, addedToHlOf, addedToSpOf, hlFromSpOf, storedAtOf, loadedFrom, complementedOf, withCarryOf, haltedOf}
 use Rattle.machine.specs.Memory.{pendingOf}
 use Rattle.machine.specs.Interrupts.{isOn, dispatchDueOf}
 use Rattle.machine.specs.Step.{settledIme, readyOf, endOf, finishedOf, stepOf}
 use Rattle.machine.specs.declared.Ime.{Ime}
 use Rattle.machine.specs.declared.Ime.the-variants.{Off, Arming, On}
 use Rattle.machine.specs.declared.Cpu.{Cpu}
+use Rattle.machine.specs.declared.Done.{Done}
 use Rattle.machine.proofs.Rules.{dispatches, idles, nextInsn, nextAfter, insnRun, step-insn}
-use Rattle.machine.proofs.Fields.{Same, pair-same, moved-same, placed-same, updated-same, jumped-same, called-same, returned-same, stacked-ime}
+use Rattle.machine.proofs.Fields.{imed, value-read, held-read, pair-read, stacked-read, pointed-read, placed-left, updated-left, pair-left, stacked-left, moved-left, jumped-left, called-left, returned-left}
 
--- what the instruction i makes of an IME t
+-- what the instruction i has to do with IME: three set it; every other leaves it, and does the same from an IME u, where HALT asks
+-- that both or neither be Off
+pub data Uses (i : Insn) (s : Cpu) (m : List ℕ) : Type 0 where
+  is-di : i ≡ Di → Uses i s m
+  is-ei : i ≡ Ei → Uses i s m
+  is-reti : i ≡ Reti → Uses i s m
+  leaves : ((u : Ime) → isOff u ≡ isOff (s .ime)
+      → execOf i (withIme u s) m ≡ record { out = imed u (execOf i s m .out); mem = execOf i s m .mem })
+      → Uses i s m
+
+pub exec-uses : (i : Insn) (s : Cpu) (m : List ℕ) → Uses i s m
+unfolding execOf resultOf addedToHlOf addedToSpOf hlFromSpOf hlOf setHl storedAtOf loadedFrom complementedOf withCarryOf haltedOf returnedTo calledOf pushedOf
+exec-uses Nop s m = leaves (λ _ _. refl)
+exec-uses (StoreSp w) s m = leaves (λ _ _. refl)
+exec-uses Stop s m = leaves (λ _ _. refl)
+exec-uses (Jr e) s m = leaves (λ _ _. refl)
+exec-uses (JrIf cc e) s m = leaves (λ _ _. rw jumped-left)
+exec-uses (LoadPair w rp) s m = leaves (λ _ _. rw pair-left)
+exec-uses (AddHl rp) s m = leaves (λ _ _. rw pair-read)
+exec-uses (StoreAt q) s m = leaves (λ _ _. rw (pointed-read, moved-left))
+exec-uses (LoadAt q) s m = leaves (λ u _. rw (pointed-read, moved-left u (loadedFrom _ s m)))
+exec-uses (IncPair rp) s m = leaves (λ _ _. rw (pair-read, pair-left))
+exec-uses (DecPair rp) s m = leaves (λ _ _. rw (pair-read, pair-left))
+exec-uses (Inc p) s m = leaves (λ _ _. rw (held-read, updated-left))
+exec-uses (Dec p) s m = leaves (λ _ _. rw (held-read, updated-left))
+exec-uses (Load p o) s m = leaves (λ _ _. rw (value-read, placed-left))
+exec-uses (RotateA r) s m = leaves (λ _ _. refl)
+exec-uses Daa s m = leaves (λ _ _. refl)
+exec-uses Cpl s m = leaves (λ _ _. refl)
+exec-uses Scf s m = leaves (λ _ _. refl)
+exec-uses Ccf s m = leaves (λ _ _. refl)
+exec-uses Halt s m = leaves (λ _ e. rw e)
+exec-uses (Math op o) s m = leaves (λ _ _. rw value-read)
+exec-uses (RetIf cc) s m = leaves (λ _ _. rw returned-left)
+exec-uses (StoreHigh n) s m = leaves (λ _ _. refl)
+exec-uses (AddSp e) s m = leaves (λ _ _. refl)
+exec-uses (LoadHigh n) s m = leaves (λ _ _. refl)
+exec-uses (LoadHlSp e) s m = leaves (λ _ _. refl)
+exec-uses (Pop rp) s m = leaves (λ u _. rw (stacked-left u (withSp _ s)))
+exec-uses Ret s m = leaves (λ _ _. refl)
+exec-uses Reti s m = is-reti refl
+exec-uses JumpHl s m = leaves (λ _ _. refl)
+exec-uses LoadSpHl s m = leaves (λ _ _. refl)
+exec-uses (JumpIf cc w) s m = leaves (λ _ _. rw jumped-left)
+exec-uses StoreHighC s m = leaves (λ _ _. refl)
+exec-uses (StoreTo w) s m = leaves (λ _ _. refl)
+exec-uses LoadHighC s m = leaves (λ _ _. refl)
+exec-uses (LoadFrom w) s m = leaves (λ _ _. refl)
+exec-uses (Jump w) s m = leaves (λ _ _. refl)
+exec-uses (Rotate r p) s m = leaves (λ _ _. rw (held-read, updated-left))
+exec-uses (Bit k p) s m = leaves (λ _ _. rw held-read)
+exec-uses (Res k p) s m = leaves (λ _ _. rw (held-read, placed-left))
+exec-uses (Set k p) s m = leaves (λ _ _. rw (held-read, placed-left))
+exec-uses Di s m = is-di refl
+exec-uses Ei s m = is-ei refl
+exec-uses (CallIf cc w) s m = leaves (λ _ _. rw called-left)
+exec-uses (Push rp) s m = leaves (λ _ _. rw stacked-read)
+exec-uses (Call w) s m = leaves (λ _ _. refl)
+exec-uses (Rst v) s m = leaves (λ _ _. refl)
+exec-uses Undefined s m = leaves (λ _ _. refl)
+
+-- what it makes of an IME t
 pub data Switched (t : Ime) : Insn → Ime → Type 0 where
   di : Switched t Di Off
   ei : Switched t Ei (armedOf t)
   reti : Switched t Reti On
   kept : {i : Insn} → Switched t i t
 
-same-kept : {i : Insn} {s t : Cpu} → Same s t → Switched (s .ime) i (t .ime)
-same-kept e = rw (e .ime) kept
+uses-switched : {i : Insn} {s : Cpu} {m : List ℕ} → Uses i s m → Switched (s .ime) i (execOf i s m .out .cpu .ime)
+unfolding execOf
+uses-switched (is-di e) = rw e di
+uses-switched (is-ei e) = rw e ei
+uses-switched (is-reti e) = rw e reti
+uses-switched {s = s} (leaves e) = rw (ap (λ (w : With Done). w .out .cpu .ime) (e (s .ime) refl)) kept
 
 pub exec-switched : (i : Insn) (s : Cpu) (m : List ℕ) → Switched (s .ime) i (execOf i s m .out .cpu .ime)
-unfolding execOf resultOf addedToHlOf addedToSpOf hlFromSpOf setHl storedAtOf loadedFrom complementedOf withCarryOf haltedOf returnedTo calledOf pushedOf
-exec-switched Nop s m = kept
-exec-switched (StoreSp w) s m = kept
-exec-switched Stop s m = kept
-exec-switched (Jr e) s m = kept
-exec-switched (JrIf cc e) s m = same-kept (jumped-same _ _ _)
-exec-switched (LoadPair w rp) s m = same-kept (pair-same rp _ _)
-exec-switched (AddHl rp) s m = kept
-exec-switched (StoreAt q) s m = same-kept (moved-same q _)
-exec-switched (LoadAt q) s m = same-kept (moved-same q _)
-exec-switched (IncPair rp) s m = same-kept (pair-same rp _ _)
-exec-switched (DecPair rp) s m = same-kept (pair-same rp _ _)
-exec-switched (Inc p) s m = same-kept (updated-same p _ s m)
-exec-switched (Dec p) s m = same-kept (updated-same p _ s m)
-exec-switched (Load p o) s m = same-kept (placed-same _ _ _ m)
-exec-switched (RotateA r) s m = kept
-exec-switched Daa s m = kept
-exec-switched Cpl s m = kept
-exec-switched Scf s m = kept
-exec-switched Ccf s m = kept
-exec-switched Halt s m = kept
-exec-switched (Math op o) s m = kept
-exec-switched (RetIf cc) s m = same-kept (returned-same _ _ _)
-exec-switched (StoreHigh n) s m = kept
-exec-switched (AddSp e) s m = kept
-exec-switched (LoadHigh n) s m = kept
-exec-switched (LoadHlSp e) s m = kept
-exec-switched (Pop rp) s m = rw stacked-ime kept
-exec-switched Ret s m = kept
-exec-switched Reti s m = reti
-exec-switched JumpHl s m = kept
-exec-switched LoadSpHl s m = kept
-exec-switched (JumpIf cc w) s m = same-kept (jumped-same _ _ _)
-exec-switched StoreHighC s m = kept
-exec-switched (StoreTo w) s m = kept
-exec-switched LoadHighC s m = kept
-exec-switched (LoadFrom w) s m = kept
-exec-switched (Jump w) s m = kept
-exec-switched (Rotate r p) s m = same-kept (updated-same p _ s m)
-exec-switched (Bit k p) s m = kept
-exec-switched (Res k p) s m = same-kept (placed-same _ _ _ m)
-exec-switched (Set k p) s m = same-kept (placed-same _ _ _ m)
-exec-switched Di s m = di
-exec-switched Ei s m = ei
-exec-switched (CallIf cc w) s m = same-kept (called-same _ _ _ m)
-exec-switched (Push rp) s m = kept
-exec-switched (Call w) s m = kept
-exec-switched (Rst v) s m = kept
-exec-switched Undefined s m = kept
+exec-switched i s m = uses-switched (exec-uses i s m)
+
+-- to settle IME before the instruction, and nothing at its end, comes to the same
+
+uses-settled : (k : ℕ) (s : Cpu) {i : Insn} {m : List ℕ} → Uses i (withIme Arming s) m
+    → finishedOf k Arming (execOf i (withIme Arming s) m) ≡ finishedOf k Off (execOf i (withIme On s) m)
+unfolding execOf returnedTo settledIme endOf finishedOf armedOf isOff
+uses-settled k s (is-di e) = rw e
+uses-settled k s (is-ei e) = rw e
+uses-settled k s (is-reti e) = rw e
+uses-settled k s (leaves e) = rw (e On refl, ap (λ (w : With Done). w .out .cpu .ime) (e Arming refl))
+
+settled-from : (t : Ime) (k : ℕ) (i : Insn) (s : Cpu) (m : List ℕ)
+    → finishedOf k t (execOf i (withIme t s) m) ≡ finishedOf k Off (execOf i (withIme (settledIme t t) s) m)
+unfolding settledIme endOf finishedOf
+settled-from Off k i s m = refl
+settled-from Arming k i s m = uses-settled k s (exec-uses i (withIme Arming s) m)
+settled-from On k i s m = refl
+
+pub settled-first : (k : ℕ) (i : Insn) (s : Cpu) (m : List ℕ)
+    → finishedOf k (s .ime) (execOf i s m) ≡ finishedOf k Off (execOf i (withIme (settledIme (s .ime) (s .ime)) s) m)
+settled-first k i s m = settled-from (s .ime) k i s m
 
 -- every instruction but those three leaves it
 left-alone : {t r : Ime} {i : Insn} → Switched t i r → i ≢ Di → i ≢ Ei → i ≢ Reti → r ≡ t

@@ -1,12 +1,16 @@
--- F and IME under the parts of the instructions that set neither.
+-- The parts of the instructions: those that do not set F leave it; from another IME they read the same, and what they make differs
+-- in IME alone.
 -- Assumes nothing.
 use Prim.Native.Nat.{ℕ}
 use mathlib.Core.Bool.{Bool, true, false}
 use mathlib.Core.List.{List}
 use mathlib.Core.Path.{_≡_, refl}
 use Rattle.arith.specs.declared.Byte.{Byte}
+use Rattle.insn.specs.Grid.{operandOf}
 use Rattle.insn.specs.declared.Register.{Register}
 use Rattle.insn.specs.declared.Register.the-variants as reg
+use Rattle.insn.specs.declared.Operand.{Operand}
+use Rattle.insn.specs.declared.Operand.the-variants.{Reg, AtHl, Const}
 use Rattle.insn.specs.declared.Place.{Place}
 use Rattle.insn.specs.declared.Place.the-variants as place
 use Rattle.insn.specs.declared.Pair.{Pair}
@@ -15,45 +19,41 @@ use Rattle.insn.specs.declared.Stacked.{Stacked}
 use Rattle.insn.specs.declared.Stacked.the-variants as stacked
 use Rattle.insn.specs.declared.Pointer.{Pointer}
 use Rattle.insn.specs.declared.Pointer.the-variants as pointer
-use Rattle.machine.specs.State.{withF, withReg, setHl, withPair, withStacked}
+use Rattle.machine.specs.State.{withF, withIme, regOf, withReg, hlOf, setHl, pairOf, withPair, stackedOf, withStacked}
 use Rattle.machine.specs.Stack.{pushedOf, returnedTo, calledOf}
-use Rattle.machine.specs.Operands.{placedOf, updatedOf, movedOf}
+use Rattle.machine.specs.Operands.{valueOf, heldOf, placedOf, updatedOf, pointedOf, movedOf}
 use Rattle.machine.specs.Execute.{jumpedIf, calledIf, returnedIf}
+use Rattle.machine.specs.declared.Ime.{Ime}
 use Rattle.machine.specs.declared.Cpu.{Cpu}
+use Rattle.machine.specs.declared.Done.{Done}
 
--- t has the F and the IME of s
-pub record Same (s t : Cpu) : Type 0 where
-  pub f : t .f ≡ s .f
-  pub ime : t .ime ≡ s .ime
+-- F
 
-pub same : {s : Cpu} → Same s s
-same = record { f = refl; ime = refl }
-
-pub reg-same : (r : Register) (v : ℕ) (s : Cpu) → Same s (withReg r v s)
+pub reg-same : (r : Register) (v : ℕ) (s : Cpu) → withReg r v s .f ≡ s .f
 unfolding withReg
-reg-same reg.B v s = record { f = refl; ime = refl }
-reg-same reg.C v s = record { f = refl; ime = refl }
-reg-same reg.D v s = record { f = refl; ime = refl }
-reg-same reg.E v s = record { f = refl; ime = refl }
-reg-same reg.H v s = record { f = refl; ime = refl }
-reg-same reg.L v s = record { f = refl; ime = refl }
-reg-same reg.A v s = record { f = refl; ime = refl }
+reg-same reg.B v s = refl
+reg-same reg.C v s = refl
+reg-same reg.D v s = refl
+reg-same reg.E v s = refl
+reg-same reg.H v s = refl
+reg-same reg.L v s = refl
+reg-same reg.A v s = refl
 
-pub pair-same : (rp : Pair) (w : ℕ) (s : Cpu) → Same s (withPair rp w s)
+pub pair-same : (rp : Pair) (w : ℕ) (s : Cpu) → withPair rp w s .f ≡ s .f
 unfolding withPair setHl
-pair-same pair.Bc w s = record { f = refl; ime = refl }
-pair-same pair.De w s = record { f = refl; ime = refl }
-pair-same pair.Hl w s = record { f = refl; ime = refl }
-pair-same pair.Sp w s = record { f = refl; ime = refl }
+pair-same pair.Bc w s = refl
+pair-same pair.De w s = refl
+pair-same pair.Hl w s = refl
+pair-same pair.Sp w s = refl
 
-pub moved-same : (p : Pointer) (s : Cpu) → Same s (movedOf p s)
+pub moved-same : (p : Pointer) (s : Cpu) → movedOf p s .f ≡ s .f
 unfolding movedOf setHl
-moved-same pointer.Bc s = record { f = refl; ime = refl }
-moved-same pointer.De s = record { f = refl; ime = refl }
-moved-same pointer.Hli s = record { f = refl; ime = refl }
-moved-same pointer.Hld s = record { f = refl; ime = refl }
+moved-same pointer.Bc s = refl
+moved-same pointer.De s = refl
+moved-same pointer.Hli s = refl
+moved-same pointer.Hld s = refl
 
-pub placed-same : (p : Place) (v : ℕ) (s : Cpu) (m : List ℕ) → Same s (placedOf p v s m .out)
+pub placed-same : (p : Place) (v : ℕ) (s : Cpu) (m : List ℕ) → placedOf p v s m .out .f ≡ s .f
 unfolding placedOf
 placed-same place.B v s m = reg-same reg.B v s
 placed-same place.C v s m = reg-same reg.C v s
@@ -61,33 +61,137 @@ placed-same place.D v s m = reg-same reg.D v s
 placed-same place.E v s m = reg-same reg.E v s
 placed-same place.H v s m = reg-same reg.H v s
 placed-same place.L v s m = reg-same reg.L v s
-placed-same place.AtHl v s m = same
+placed-same place.AtHl v s m = refl
 placed-same place.A v s m = reg-same reg.A v s
 
 -- a result put back has its own F
-pub updated-same : (p : Place) (b : Byte) (s : Cpu) (m : List ℕ) → Same (withF (b .flags) s) (updatedOf p b s m .out)
+pub updated-same : (p : Place) (b : Byte) (s : Cpu) (m : List ℕ) → updatedOf p b s m .out .f ≡ b .flags
 unfolding updatedOf
 updated-same p b s m = placed-same p (b .value) (withF (b .flags) s) m
 
-pub jumped-same : (t : Bool) (to : ℕ) (s : Cpu) → Same s (jumpedIf t to s .cpu)
+pub jumped-same : (t : Bool) (to : ℕ) (s : Cpu) → jumpedIf t to s .cpu .f ≡ s .f
 unfolding jumpedIf
-jumped-same true to s = record { f = refl; ime = refl }
-jumped-same false to s = same
+jumped-same true to s = refl
+jumped-same false to s = refl
 
-pub called-same : (t : Bool) (to : ℕ) (s : Cpu) (m : List ℕ) → Same s (calledIf t to s m .out .cpu)
+pub called-same : (t : Bool) (to : ℕ) (s : Cpu) (m : List ℕ) → calledIf t to s m .out .cpu .f ≡ s .f
 unfolding calledIf calledOf pushedOf
-called-same true to s m = record { f = refl; ime = refl }
-called-same false to s m = same
+called-same true to s m = refl
+called-same false to s m = refl
 
-pub returned-same : (t : Bool) (to : ℕ) (s : Cpu) → Same s (returnedIf t to s .cpu)
+pub returned-same : (t : Bool) (to : ℕ) (s : Cpu) → returnedIf t to s .cpu .f ≡ s .f
 unfolding returnedIf returnedTo
-returned-same true to s = record { f = refl; ime = refl }
-returned-same false to s = same
+returned-same true to s = refl
+returned-same false to s = refl
 
--- POP AF sets F
-pub stacked-ime : (rp : Stacked) (w : ℕ) (s : Cpu) → withStacked rp w s .ime ≡ s .ime
-unfolding withStacked setHl
-stacked-ime stacked.Bc w s = refl
-stacked-ime stacked.De w s = refl
-stacked-ime stacked.Hl w s = refl
-stacked-ime stacked.Af w s = refl
+-- IME
+
+-- what is done, with another
+abbrev pub imed : Ime → Done → Done
+imed u d = record { cpu = withIme u (d .cpu); extra = d .extra }
+
+module _ (u : Ime) (s : Cpu) where
+  reg-read : (r : Register) → regOf r (withIme u s) ≡ regOf r s
+  unfolding regOf
+  reg-read reg.B = refl
+  reg-read reg.C = refl
+  reg-read reg.D = refl
+  reg-read reg.E = refl
+  reg-read reg.H = refl
+  reg-read reg.L = refl
+  reg-read reg.A = refl
+
+  pub value-read : (o : Operand) (m : List ℕ) → valueOf o (withIme u s) m ≡ valueOf o s m
+  unfolding valueOf hlOf
+  value-read (Reg r) m = reg-read r
+  value-read AtHl m = refl
+  value-read (Const v) m = refl
+
+  pub held-read : (p : Place) (m : List ℕ) → heldOf p (withIme u s) m ≡ heldOf p s m
+  unfolding heldOf
+  held-read p m = value-read (operandOf p) m
+
+  pub pair-read : (rp : Pair) → pairOf rp (withIme u s) ≡ pairOf rp s
+  unfolding pairOf hlOf
+  pair-read pair.Bc = refl
+  pair-read pair.De = refl
+  pair-read pair.Hl = refl
+  pair-read pair.Sp = refl
+
+  pub stacked-read : (rp : Stacked) → stackedOf rp (withIme u s) ≡ stackedOf rp s
+  unfolding stackedOf hlOf
+  stacked-read stacked.Bc = refl
+  stacked-read stacked.De = refl
+  stacked-read stacked.Hl = refl
+  stacked-read stacked.Af = refl
+
+  pub pointed-read : (p : Pointer) → pointedOf p (withIme u s) ≡ pointedOf p s
+  unfolding pointedOf hlOf
+  pointed-read pointer.Bc = refl
+  pointed-read pointer.De = refl
+  pointed-read pointer.Hli = refl
+  pointed-read pointer.Hld = refl
+
+  reg-left : (r : Register) (v : ℕ) → withReg r v (withIme u s) ≡ withIme u (withReg r v s)
+  unfolding withReg
+  reg-left reg.B v = refl
+  reg-left reg.C v = refl
+  reg-left reg.D v = refl
+  reg-left reg.E v = refl
+  reg-left reg.H v = refl
+  reg-left reg.L v = refl
+  reg-left reg.A v = refl
+
+  pub placed-left : (p : Place) (v : ℕ) (m : List ℕ)
+      → placedOf p v (withIme u s) m ≡ record { out = withIme u (placedOf p v s m .out); mem = placedOf p v s m .mem }
+  unfolding placedOf hlOf
+  placed-left place.B v m = rw reg-left
+  placed-left place.C v m = rw reg-left
+  placed-left place.D v m = rw reg-left
+  placed-left place.E v m = rw reg-left
+  placed-left place.H v m = rw reg-left
+  placed-left place.L v m = rw reg-left
+  placed-left place.AtHl v m = refl
+  placed-left place.A v m = rw reg-left
+
+  pub pair-left : (rp : Pair) (w : ℕ) → withPair rp w (withIme u s) ≡ withIme u (withPair rp w s)
+  unfolding withPair setHl
+  pair-left pair.Bc w = refl
+  pair-left pair.De w = refl
+  pair-left pair.Hl w = refl
+  pair-left pair.Sp w = refl
+
+  pub stacked-left : (rp : Stacked) (w : ℕ) → withStacked rp w (withIme u s) ≡ withIme u (withStacked rp w s)
+  unfolding withStacked setHl
+  stacked-left stacked.Bc w = refl
+  stacked-left stacked.De w = refl
+  stacked-left stacked.Hl w = refl
+  stacked-left stacked.Af w = refl
+
+  pub moved-left : (p : Pointer) → movedOf p (withIme u s) ≡ withIme u (movedOf p s)
+  unfolding movedOf setHl hlOf
+  moved-left pointer.Bc = refl
+  moved-left pointer.De = refl
+  moved-left pointer.Hli = refl
+  moved-left pointer.Hld = refl
+
+  pub jumped-left : (t : Bool) (to : ℕ) → jumpedIf t to (withIme u s) ≡ imed u (jumpedIf t to s)
+  unfolding jumpedIf
+  jumped-left true to = refl
+  jumped-left false to = refl
+
+  pub called-left : (t : Bool) (to : ℕ) (m : List ℕ)
+      → calledIf t to (withIme u s) m ≡ record { out = imed u (calledIf t to s m .out); mem = calledIf t to s m .mem }
+  unfolding calledIf calledOf pushedOf
+  called-left true to m = refl
+  called-left false to m = refl
+
+  pub returned-left : (t : Bool) (to : ℕ) → returnedIf t to (withIme u s) ≡ imed u (returnedIf t to s)
+  unfolding returnedIf returnedTo
+  returned-left true to = refl
+  returned-left false to = refl
+
+pub updated-left : (u : Ime) (s : Cpu) (p : Place) (b : Byte) (m : List ℕ)
+    → updatedOf p b (withIme u s) m ≡ record { out = withIme u (updatedOf p b s m .out); mem = updatedOf p b s m .mem }
+unfolding updatedOf
+updated-left u s p b m = placed-left u (withF (b .flags) s) p (b .value) m

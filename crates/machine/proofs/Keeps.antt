@@ -20,7 +20,7 @@ use Rattle.machine.specs.Execute.{execOf, resultOf, addedToHlOf, addedTo
 use Rattle.machine.specs.Interrupts.{dispatchOf, vectoredOf}
 use Rattle.machine.specs.Step.{readyOf, endOf, finishedOf, stepOf}
 use Rattle.machine.specs.declared.Cpu.{Cpu}
-use Rattle.machine.proofs.Fields.{Same, pair-same, moved-same, placed-same, updated-same, jumped-same, called-same, returned-same}
+use Rattle.machine.proofs.Fields.{pair-same, moved-same, placed-same, updated-same, jumped-same, called-same, returned-same}
 use Rattle.machine.proofs.Rules.{ruled, nextInsn, nextAfter, insnRun, by-rules, by-refusals}
 use Rattle.machine.proofs.Stores.{made-length, step-made, ruled-made}
 
@@ -45,8 +45,8 @@ alu-low Xor a b f = flags-low _ _ _ _
 alu-low Or a b f = flags-low _ _ _ _
 alu-low Cp a b f = flags-low _ _ _ _
 
-same-low : {s t : Cpu} → Same s t → s .f % 16 ≡ 0 → t .f % 16 ≡ 0
-same-low e p = rw (e .f) p
+same-low : {f g : ℕ} → g ≡ f → f % 16 ≡ 0 → g % 16 ≡ 0
+same-low e p = rw e p
 
 stacked-low : (rp : Stacked) (w : ℕ) (s : Cpu) → s .f % 16 ≡ 0 → withStacked rp w s .f % 16 ≡ 0
 unfolding withStacked setHl

@@ -115,7 +115,7 @@ step-ruled s m l f = rw (eq-eqb _ _ l, eq-eqb _ _ f)
 
 -- the tests in document 01's words
 
-bool-apart : true ≡ false → ⊥
+pub bool-apart : true ≡ false → ⊥
 bool-apart e = let z : _≡_ {A = ℕ} 0 1 = cc in omega arith
 
 pub stopped-is : (mode : Mode) → (isStopped mode ≡ true) ↔ (mode ≡ Stopped)

@@ -63,18 +63,14 @@ pub(crate) fn is_stopped(mode: Mode) -> bool
     }
 }
 
-// IME at the end of an instruction that began with start: Arming has become On, unless DI made it Off.
-pub(crate) fn settled(start: Ime, now: Ime) -> Ime
-    ensures { λ r. ⌜ r ≡ settledIme start now ⌝ }
+// IME at the end of an instruction that leaves it alone: Arming has become On.
+pub(crate) fn settled(ime: Ime) -> Ime
+    ensures { λ r. ⌜ r ≡ settledIme ime ime ⌝ }
 {
-    match start {
-        Ime::Off => now,
-        Ime::Arming => match now {
-            Ime::Off => Ime::Off,
-            Ime::Arming => Ime::On,
-            Ime::On => Ime::On,
-        },
-        Ime::On => now,
+    match ime {
+        Ime::Off => Ime::Off,
+        Ime::Arming => Ime::On,
+        Ime::On => Ime::On,
     }
 }
 

@@ -9,11 +9,15 @@ use crate::memory;
 use crate::modes;
 use arith::words;
 use insn::decode;
+ghost use mathlib.Core.Bool.{true};
 ghost use mathlib.Core.Path.{_≡_};
 ghost use Prim.Native.Nat.{_+_, _≤_};
 ghost use lib.ListN.{length};
 ghost use Rattle.machine.specs.Answers.{Gives};
-ghost use Rattle.machine.specs.Step.{pastFirst, readyOf, endOf, instructionStep, isStopped, stoppedStep};
+ghost use Rattle.machine.specs.State.{withIme};
+ghost use Rattle.machine.specs.Step.{pastFirst, insnAt, readyOf, settledIme, insnStep, isStopped, stoppedStep};
+ghost use Rattle.machine.specs.declared.Ime.the-variants.{Off};
+ghost use Rattle.machine.specs.declared.Mode.the-variants.{Running};
 
 // Where the bytes after the first lie: in Repeat the first does not move PC.
 fn past_first(mode: Mode, pc: u16) -> u16
@@ -27,17 +31,32 @@ fn past_first(mode: Mode, pc: u16) -> u16
     }
 }
 
-// The end of an instruction that began with IME start and costs so many cycles where nothing is taken.
-fn end(cycles: u8, start: Ime, d: Done) -> Stepped
+// Running with IME Off: nothing has to be looked at before the instruction.
+fn quiet(mode: Mode, ime: Ime) -> bool
+    ensures { λ r. ⌜ (r ≡ true → (mode ≡ Running) × (ime ≡ Off)) ⌝ }
+{
+    match mode {
+        Mode::Running => match ime {
+            Ime::Off => true,
+            Ime::Arming => false,
+            Ime::On => false,
+        },
+        Mode::Repeat => false,
+        Mode::Halted => false,
+        Mode::Stopped => false,
+    }
+}
+
+// The end of an instruction that costs so many cycles where nothing is taken.
+fn end(cycles: u8, d: Done) -> Stepped
     requires { ⌜ cycles + d .extra ≤ 6 ⌝ }
-    ensures { λ r. ⌜ r ≡ endOf cycles start d ⌝ }
+    ensures { λ r. ⌜ r ≡ record { code = 0; cycles = cycles + d .extra; cpu = d .cpu } ⌝ }
 {
     let cpu = d.cpu;
-    let ime = cpu.ime;
     Stepped {
         code: 0,
         cycles: cycles + d.extra,
-        cpu: cpu.with_ime(modes::settled(start, ime)),
+        cpu: Cpu { ..cpu },
     }
 }
 
@@ -52,26 +71,25 @@ impl Cpu {
         }
     }
 
-    fn ready(self, after: u16) -> Cpu
-        ensures { λ r. ⌜ r ≡ readyOf after self ⌝ }
+    fn ready(self, after: u16, ime: Ime) -> Cpu
+        ensures { λ r. ⌜ r ≡ withIme ime (readyOf after self) ⌝ }
     {
         Cpu {
             pc: after,
+            ime,
             mode: Mode::Running,
             ..self
         }
     }
 
-    // Rule 3: the instruction at PC, or the refusal of an undefined one.
-    fn instruction(self, mem: &mut [u8]) -> Stepped
+    // Rule 3: the instruction at PC, its other bytes from rest on, or the refusal of an undefined one. IME is what an instruction
+    // that leaves it alone ends with: Arming has become On.
+    fn instruction(self, rest: u16, ime: Ime, mem: &mut [u8]) -> Stepped
         requires { ⌜ length (now mem) ≡ 65536 ⌝ }
-        ensures { λ r. ⌜ Gives (instructionStep self (now (mem .entry))) r (now (mem .exit)) ⌝ }
+        requires { ⌜ ime ≡ settledIme (self .ime) (self .ime) ⌝ }
+        ensures { λ r. ⌜ Gives (insnStep (insnAt (self .pc) rest (now (mem .entry))) rest self (now (mem .entry))) r (now (mem .exit)) ⌝ }
     {
-        let pc = self.pc;
-        let mode = self.mode;
-        let start = self.ime;
-        let rest = past_first(mode, pc);
-        let op = memory::read(&*mem, pc);
+        let op = memory::read(&*mem, self.pc);
         let n8 = memory::read(&*mem, rest);
         let n16 = memory::read_word(&*mem, rest);
         let d = decode::decode(op, n8, n16);
@@ -80,35 +98,42 @@ impl Cpu {
             return self.refuse(4);
         }
         let i = d.insn;
-        let done = self.ready(words::on(d.more, rest)).execute(i, mem);
-        end(cycles, start, done)
+        end(
+            cycles,
+            self.ready(words::on(d.more, rest), ime).execute(i, mem),
+        )
     }
 
-    // Refusal 3, then the dispatch, the idle step or the instruction.
+    // The idle step, refusal 3, the dispatch or the instruction.
     pub(crate) fn step_once(self, mem: &mut [u8]) -> Stepped
         requires { ⌜ length (now mem) ≡ 65536 ⌝ }
         ensures { λ r. ⌜ Gives (stoppedStep (isStopped (self .mode)) self (now (mem .entry))) r (now (mem .exit)) ⌝ }
     {
         let mode = self.mode;
-        let ime = self.ime;
-        if modes::is_stopped(mode) {
-            return self.refuse(3);
+        let mut ime = self.ime;
+        let mut rest = words::on(1, self.pc);
+        if !quiet(mode, ime) {
+            let p = memory::pending(&*mem);
+            if modes::is_halted(mode) & (p == 0) {
+                return Stepped {
+                    code: 0,
+                    cycles: 1,
+                    cpu: Cpu { ..self },
+                };
+            }
+            if modes::is_stopped(mode) {
+                return self.refuse(3);
+            }
+            if interrupts::dispatch_due(ime, p) {
+                return Stepped {
+                    code: 0,
+                    cycles: 5,
+                    cpu: self.dispatch(interrupts::lowest(p), mem),
+                };
+            }
+            rest = past_first(mode, self.pc);
+            ime = modes::settled(ime);
         }
-        let p = memory::pending(&*mem);
-        if interrupts::dispatch_due(ime, p) {
-            return Stepped {
-                code: 0,
-                cycles: 5,
-                cpu: self.dispatch(interrupts::lowest(p), mem),
-            };
-        }
-        if modes::is_halted(mode) & (p == 0) {
-            return Stepped {
-                code: 0,
-                cycles: 1,
-                cpu: Cpu { ..self },
-            };
-        }
-        self.instruction(mem)
+        self.instruction(rest, ime, mem)
     }
 }

@@ -4,7 +4,7 @@ use borrow.Author.Needs.{needs}
 use native.Mathlib.Omega.{arith}
 use Rattle.insn.specs.Shapes.{decodedOf}
 use Rattle.machine.specs.Memory.{byteAt, wordAt}
-use Rattle.machine.specs.Step.{finishedOf}
+use Rattle.machine.specs.Step.{settledIme, endOf, finishedOf}
 use Rattle.machine.specs.declared.Done.{Done}
 use Rattle.machine.proofs.Costs.{cycles-most}
 use Rattle.machine.proofs.Fetch.{undefined-here, runs-here, cycles-told}
@@ -12,16 +12,14 @@ use Rattle.machine.proofs.Gives.{exactly}
 use Rattle.machine.proofs.Cpu.instruction.Statement.{statement}
 use Rattle.machine.proofs.Cpu.instruction.Tie as tie
 
--- what was decoded is what lies at PC and after it
+abbrev start : tie.After-decode → tie.Start
+start c = c .before .before .before .before .before .before .before .before
+
+-- what was decoded is what lies at PC and from rest on
 fetched : (c : tie.After-decode)
     → c .decode .result
-    ≡ decodedOf
-    (byteAt (c .before .before .before .before .before .before .before .before .before .args .mem .now)
-    (c .before .before .before .before .before .before .before .before .before .args .self .pc))
-    (byteAt (c .before .before .before .before .before .before .before .before .before .args .mem .now)
-    (c .before .before .before .before .before .before .before .past-first .result))
-    (wordAt (c .before .before .before .before .before .before .before .before .before .args .mem .now)
-    (c .before .before .before .before .before .before .before .past-first .result))
+    ≡ decodedOf (byteAt (start c .args .mem .now) (start c .args .self .pc)) (byteAt (start c .args .mem .now) (start c .args .rest))
+    (wordAt (start c .args .mem .now) (start c .args .rest))
 fetched c =
     rw (
       c .before .read-word .ensures,
@@ -33,11 +31,9 @@ fetched c =
 returns : tie.Need-returns
 returns c =
     let f = c .before .before in
-    let p = f .before .before .before .before .before .before .before in
-    let a = p .before .before .args in
+    let a = start f .args in
     rw (
-      undefined-here (a .self) (a .mem .now) (p .past-first .result) (f .decode .result) (p .past-first .ensures) (fetched f)
-          (c .before .if1 .taken),
+      undefined-here (a .self) (a .mem .now) (a .rest) (f .decode .result) (fetched f) (c .before .if1 .taken),
       c .refuse .ensures,
     )
     exactly
@@ -46,24 +42,22 @@ end-requires : tie.Need-end-requires
 end-requires c κs =
     let x = c .before .before in
     let f = x .before .before .before .before .before in
-    let p = f .before .before .before .before .before .before .before in
-    let a = p .before .before .args in
+    let a = start f .args in
     omega (
       arith,
       ap (λ (d : Done). d .extra) (x .execute .ensures .answers),
       cycles-most (f .decode .result .insn) (x .before .before .ready .result) (a .mem .now),
-      cycles-told (a .self) (a .mem .now) (p .past-first .result) (f .decode .result) (p .past-first .ensures) (fetched f),
+      cycles-told (a .self) (a .mem .now) (a .rest) (f .decode .result) (fetched f),
     )
 
 returns-2 : tie.Need-returns-2
-unfolding finishedOf
+unfolding settledIme endOf finishedOf
 returns-2 c =
     let x = c .before .before .before in
     let f = x .before .before .before .before .before in
-    let p = f .before .before .before .before .before .before .before in
-    let a = p .before .before .args in
+    let a = start f .args in
     rw
-    (runs-here (a .self) (a .mem .now) (p .past-first .result) (f .decode .result) (p .past-first .ensures) (fetched f)
+    (runs-here (a .self) (a .mem .now) (a .rest) (f .decode .result) (fetched f) (a .ime) (start f .pre .1)
     (x .before .before .before .before .if1 .left))
     (rw (
       c .end .ensures,
@@ -77,5 +71,5 @@ returns-2 c =
 pub instruction-spec : {M : Type 1} → statement M
 instruction-spec =
     tie.close
-    (tie.spec (search needs) (search needs) (search needs) (search needs) (search needs) (search needs) (search needs) returns
-    (search needs) (search needs) (search needs) end-requires (search needs) returns-2)
+    (tie.spec (search needs) (search needs) (search needs) (search needs) (search needs) (search needs) returns (search needs)
+    (search needs) (search needs) end-requires (search needs) returns-2)

@@ -10,19 +10,11 @@ returns c = simp (c .enum-told .given .1)
 
 returns-2 : tie.Need-returns-2
 unfolding settledIme
-returns-2 c = simp (c .enum-told3 .given .1, c .before .before .enum-told2 .given .1)
+returns-2 c = simp (c .enum-told2 .given .1)
 
 returns-3 : tie.Need-returns-3
 unfolding settledIme
-returns-3 c = simp (c .enum-told4 .given .1, c .before .before .enum-told2 .given .1)
-
-returns-4 : tie.Need-returns-4
-unfolding settledIme
-returns-4 c = simp (c .enum-told5 .given .1, c .before .before .enum-told2 .given .1)
-
-returns-5 : tie.Need-returns-5
-unfolding settledIme
-returns-5 c = simp (c .enum-told6 .given .1)
+returns-3 c = simp (c .enum-told3 .given .1)
 
 pub settled-spec : {M : Type 1} → statement M
-settled-spec = tie.close (tie.spec (search needs) (search needs) (search needs) (search needs) (search needs) (search needs) returns returns-2 returns-3 returns-4 returns-5)
+settled-spec = tie.close (tie.spec (search needs) (search needs) (search needs) returns returns-2 returns-3)
