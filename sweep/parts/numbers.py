@@ -1,7 +1,8 @@
 """Numbers as they are written, and those that stand near them."""
 import re
 
-NUMBER = re.compile(r"(?<![\w·.\-])(0x[0-9A-Fa-f]+|\d+)(?![\w])")
+# a comma right before digits stands in the words of a refusal, between thousands
+NUMBER = re.compile(r"(?<![\w·.,\-])(0x[0-9A-Fa-f]+|\d[\d_]*)(?![\w])")
 
 
 def written(value, like):
