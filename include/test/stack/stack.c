@@ -1,0 +1,91 @@
+/* How much stack the calls need: each is made on a stack of its own that is
+ * painted before, and the paint that is gone after it is counted. */
+#define _XOPEN_SOURCE 700
+
+#include "trnadulek.h"
+
+#include <stdio.h>
+#include <string.h>
+#include <ucontext.h>
+
+enum { STACK_SIZE = 65536, PAINT = 0xA5, MOST = 1024 };
+
+static uint8_t stack[STACK_SIZE];
+static uint8_t head[TRNADULEK_HEAD_SIZE];
+static uint8_t memory[TRNADULEK_MEMORY_SIZE];
+static uint8_t image[TRNADULEK_IMAGE_SIZE];
+static uint8_t state[TRNADULEK_STATE_SIZE];
+static ucontext_t here;
+
+static void nothing(void) {}
+
+static void run(void)
+{
+    uint32_t spent, steps;
+    trnadulek_run(head, sizeof head, memory, sizeof memory, TRNADULEK_LARGEST_BUDGET, &spent, &steps);
+}
+
+static void step(void)
+{
+    uint8_t cycles;
+    trnadulek_step(head, sizeof head, memory, sizeof memory, &cycles);
+}
+
+static void save_and_open(void)
+{
+    trnadulek_save_image(state, memory, sizeof memory, image, sizeof image);
+    trnadulek_open_image(image, sizeof image, state);
+}
+
+static void save_and_load(void)
+{
+    trnadulek_save_head(state, head, sizeof head);
+    trnadulek_load_head(head, sizeof head, state);
+}
+
+static void ask(void)
+{
+    uint8_t words[64];
+    trnadulek_words(5, words, sizeof words);
+    trnadulek_length(0xCB);
+    trnadulek_untaken_cycles(0xCB);
+    trnadulek_size(3);
+}
+
+/* The bytes of the stack that a call has written over. */
+static size_t used_by(void (*call)(void))
+{
+    ucontext_t there;
+    size_t left = 0;
+    memset(stack, PAINT, sizeof stack);
+    getcontext(&there);
+    there.uc_stack.ss_sp = stack;
+    there.uc_stack.ss_size = sizeof stack;
+    there.uc_link = &here;
+    makecontext(&there, call, 0);
+    swapcontext(&here, &there);
+    while (left < sizeof stack && stack[left] == PAINT) {
+        left++;
+    }
+    return sizeof stack - left;
+}
+
+static int within(const char *what, void (*call)(void), size_t entry)
+{
+    size_t used = used_by(call) - entry;
+    printf("stack: %s needs %lu bytes\n", what, (unsigned long)used);
+    return used <= MOST;
+}
+
+int main(void)
+{
+    size_t entry = used_by(nothing);
+    int good = 1;
+    save_and_load();
+    good &= within("a run of the largest budget", run, entry);
+    good &= within("a step", step, entry);
+    good &= within("an image saved and opened", save_and_open, entry);
+    good &= within("a head saved and loaded", save_and_load, entry);
+    good &= within("a question", ask, entry);
+    return good ? 0 : 1;
+}
