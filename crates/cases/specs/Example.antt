@@ -18,9 +18,9 @@ exampleCells =
     ∷ cell 0xDFFE 0x34 ∷ cell 0xDFFF 0x12
     ∷ []
 
--- the sum in the destination
+-- the sum in the destination, and the byte after it, 0 as before
 unfoldable pub sumCells : List Cell
-sumCells = cell 0xC000 0x00 ∷ cell 0xC001 0x02 ∷ []
+sumCells = cell 0xC000 0x00 ∷ cell 0xC001 0x02 ∷ cell 0xC002 0x00 ∷ []
 
 unfoldable pub exampleRun : Shown Ran
 exampleRun = shownOf (runOf 30 (stateOf 0 0x0200 0xC100 0xC000 0xDFFE 0x0150 Off) (memoryOf exampleCells)) sumCells
