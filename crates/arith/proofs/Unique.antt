@@ -2,12 +2,6 @@
 -- `Post`, the claim that is read off a function's own `ensures`, so that a promise that says less does not have its theorem.
 -- Assumes nothing.
 use mathlib.Core.Path.{_≡_, _∙_, sym}
-use Rattle.arith.proofs.bytes.one_if.Reads as one-if
-use Rattle.arith.proofs.bytes.half_carry.Reads as half-carry
-use Rattle.arith.proofs.bytes.half_borrow.Reads as half-borrow
-use Rattle.arith.proofs.bytes.add.Reads as add
-use Rattle.arith.proofs.bytes.subtract.Reads as subtract
-use Rattle.arith.proofs.bytes.compare.Reads as compare
 use Rattle.arith.proofs.bytes.operate.Reads as operate
 use Rattle.arith.proofs.bytes.increase.Reads as increase
 use Rattle.arith.proofs.bytes.decrease.Reads as decrease
@@ -16,11 +10,8 @@ use Rattle.arith.proofs.bytes.reset.Reads as reset
 use Rattle.arith.proofs.bytes.set.Reads as set
 use Rattle.arith.proofs.bytes.test.Reads as test
 use Rattle.arith.proofs.decimal.adjust.Reads as adjust
-use Rattle.arith.proofs.flags.weight.Reads as weight
 use Rattle.arith.proofs.flags.pack.Reads as pack
 use Rattle.arith.proofs.flags.zero.Reads as zero
-use Rattle.arith.proofs.flags.negative.Reads as negative
-use Rattle.arith.proofs.flags.half.Reads as half
 use Rattle.arith.proofs.flags.carry.Reads as carry
 use Rattle.arith.proofs.rotates.rotate.Reads as rotate
 use Rattle.arith.proofs.rotates.rotate_a.Reads as rotate-a
@@ -46,24 +37,6 @@ abbrev pub OneOutcome : {K S : Type 0} {A R E : K → Type 0} → ((κs : K) →
 OneOutcome {K} {S} {A} {R} {E} Post left =
     (κs : K) (a : A κs) (x y : R κs) (e f : E κs) → Post κs a x e → Post κs a y f → (x ≡ y) × (left κs e ≡ left κs f)
 
-pub one-if-unique : OneAnswer one-if.Post
-one-if-unique _ _ _ _ _ _ p q = same (p .0) (q .0)
-
-pub half-carry-unique : OneAnswer half-carry.Post
-half-carry-unique _ _ _ _ _ _ = same
-
-pub half-borrow-unique : OneAnswer half-borrow.Post
-half-borrow-unique _ _ _ _ _ _ = same
-
-pub add-unique : OneAnswer add.Post
-add-unique _ _ _ _ _ _ = same
-
-pub subtract-unique : OneAnswer subtract.Post
-subtract-unique _ _ _ _ _ _ = same
-
-pub compare-unique : OneAnswer compare.Post
-compare-unique _ _ _ _ _ _ = same
-
 pub operate-unique : OneAnswer operate.Post
 operate-unique _ _ _ _ _ _ = same
 
@@ -88,20 +61,11 @@ test-unique _ _ _ _ _ _ = same
 pub adjust-unique : OneAnswer adjust.Post
 adjust-unique _ _ _ _ _ _ = same
 
-pub weight-unique : OneAnswer weight.Post
-weight-unique _ _ _ _ _ _ p q = same (p .0) (q .0)
-
 pub pack-unique : OneAnswer pack.Post
 pack-unique _ _ _ _ _ _ = same
 
 pub zero-unique : OneAnswer zero.Post
 zero-unique _ _ _ _ _ _ = same
-
-pub negative-unique : OneAnswer negative.Post
-negative-unique _ _ _ _ _ _ = same
-
-pub half-unique : OneAnswer half.Post
-half-unique _ _ _ _ _ _ = same
 
 pub carry-unique : OneAnswer carry.Post
 carry-unique _ _ _ _ _ _ = same

@@ -8,27 +8,27 @@ ghost use Rattle.arith.specs.Width.{oneIf, sumOf, differenceOf, carryOf,
 ghost use Rattle.arith.specs.Bytes.{addedOf, subtractedOf, logicOf, comparedOf, aluOf, increasedOf, decreasedOf, bitOf, resetOf, setOf, testedOf};
 
 // A carry as a number.
-pub fn one_if(on: bool) -> u8
+pub(crate) fn one_if(on: bool) -> u8
     ensures { λ r. ⌜ (r ≡ oneIf on) × (r ≤ 1) ⌝ }
 {
     if on { 1 } else { 0 }
 }
 
 // The carry out of bit 3 of a + b + k.
-pub fn half_carry(a: u8, b: u8, k: bool) -> bool
+fn half_carry(a: u8, b: u8, k: bool) -> bool
     ensures { λ r. ⌜ r ≡ carryOf 4 a b (oneIf k) ⌝ }
 {
     16 <= a % 16 + b % 16 + one_if(k)
 }
 
 // The borrow from bit 4 of a - b - k.
-pub fn half_borrow(a: u8, b: u8, k: bool) -> bool
+fn half_borrow(a: u8, b: u8, k: bool) -> bool
     ensures { λ r. ⌜ r ≡ borrowOf 4 a b (oneIf k) ⌝ }
 {
     a % 16 < b % 16 + one_if(k)
 }
 
-pub fn add(a: u8, b: u8, k: bool) -> Byte
+fn add(a: u8, b: u8, k: bool) -> Byte
     ensures { λ r. ⌜ r ≡ addedOf a b k ⌝ }
 {
     let sum = (a as u16) + (b as u16) + (one_if(k) as u16);
@@ -40,7 +40,7 @@ pub fn add(a: u8, b: u8, k: bool) -> Byte
     }
 }
 
-pub fn subtract(a: u8, b: u8, k: bool) -> Byte
+fn subtract(a: u8, b: u8, k: bool) -> Byte
     ensures { λ r. ⌜ r ≡ subtractedOf a b k ⌝ }
 {
     let taken = (b as u16) + (one_if(k) as u16);
@@ -62,7 +62,7 @@ fn logic(v: u8, h: bool) -> Byte
     }
 }
 
-pub fn compare(a: u8, b: u8) -> Byte
+fn compare(a: u8, b: u8) -> Byte
     ensures { λ r. ⌜ r ≡ comparedOf a b ⌝ }
 {
     let d = subtract(a, b, false);

@@ -4,7 +4,7 @@ ghost use Prim.Native.Nat.{_≤_, _%_};
 ghost use Rattle.arith.specs.Flags.{weightIf, flagsOf, zOf, nOf, hOf, cOf};
 
 // The weight of a flag that is set.
-pub fn weight(on: bool, v: u8) -> u8
+pub(crate) fn weight(on: bool, v: u8) -> u8
     ensures { λ r. ⌜ (r ≡ weightIf on v) × (r ≤ v) ⌝ }
 {
     if on { v } else { 0 }
@@ -22,13 +22,13 @@ pub fn zero(f: u8) -> bool
     f / 0x80 % 2 == 1
 }
 
-pub fn negative(f: u8) -> bool
+pub(crate) fn negative(f: u8) -> bool
     ensures { λ r. ⌜ r ≡ nOf f ⌝ }
 {
     f / 0x40 % 2 == 1
 }
 
-pub fn half(f: u8) -> bool
+pub(crate) fn half(f: u8) -> bool
     ensures { λ r. ⌜ r ≡ hOf f ⌝ }
 {
     f / 0x20 % 2 == 1
