@@ -16,7 +16,7 @@ impl Cpu {
         ensures { λ r. ⌜ r ≡ done self ⌝ }
     {
         Done {
-            cpu: Cpu { ..self },
+            cpu: self,
             extra: 0,
         }
     }

@@ -38,7 +38,7 @@ impl Cpu {
             }
         } else {
             Done {
-                cpu: Cpu { ..self },
+                cpu: self,
                 extra: 0,
             }
         }
@@ -62,7 +62,7 @@ impl Cpu {
             }
         } else {
             Done {
-                cpu: Cpu { ..self },
+                cpu: self,
                 extra: 0,
             }
         }
@@ -87,7 +87,7 @@ impl Cpu {
             }
         } else {
             Done {
-                cpu: Cpu { ..self },
+                cpu: self,
                 extra: 0,
             }
         }

@@ -63,7 +63,7 @@ impl Cpu {
             Place::L => self.with_register(Register::L, v),
             Place::AtHl => {
                 memory::store(mem, self.hl(), v);
-                Cpu { ..self }
+                self
             }
             Place::A => self.with_register(Register::A, v),
         }
@@ -94,8 +94,8 @@ impl Cpu {
         ensures { λ r. ⌜ r ≡ movedOf p self ⌝ }
     {
         match p {
-            Pointer::Bc => Cpu { ..self },
-            Pointer::De => Cpu { ..self },
+            Pointer::Bc => self,
+            Pointer::De => self,
             Pointer::Hli => self.with_hl(words::on(1, self.hl())),
             Pointer::Hld => self.with_hl(words::back_by(1, self.hl())),
         }

@@ -28,7 +28,7 @@ fn turns(start: Cpu, mem: &mut [u8], budget: u32) -> Ran
                 code,
                 spent,
                 steps,
-                cpu: Cpu { ..cpu },
+                cpu,
             };
         }
         let after = next.cpu;
@@ -40,7 +40,7 @@ fn turns(start: Cpu, mem: &mut [u8], budget: u32) -> Ran
         code: 0,
         spent,
         steps,
-        cpu: Cpu { ..cpu },
+        cpu,
     }
 }
 
@@ -52,14 +52,14 @@ pub fn step(cpu: Cpu, mem: &mut [u8]) -> Stepped
         return Stepped {
             code: 1,
             cycles: 0,
-            cpu: Cpu { ..cpu },
+            cpu,
         };
     }
     if cpu.f % 16 != 0 {
         return Stepped {
             code: 2,
             cycles: 0,
-            cpu: Cpu { ..cpu },
+            cpu,
         };
     }
     let r = turns(cpu, mem, 1);
@@ -81,7 +81,7 @@ pub fn run(cpu: Cpu, mem: &mut [u8], budget: u32) -> Ran
             code: 1,
             spent: 0,
             steps: 0,
-            cpu: Cpu { ..cpu },
+            cpu,
         };
     }
     if cpu.f % 16 != 0 {
@@ -89,7 +89,7 @@ pub fn run(cpu: Cpu, mem: &mut [u8], budget: u32) -> Ran
             code: 2,
             spent: 0,
             steps: 0,
-            cpu: Cpu { ..cpu },
+            cpu,
         };
     }
     if 1048576 < budget {
@@ -97,7 +97,7 @@ pub fn run(cpu: Cpu, mem: &mut [u8], budget: u32) -> Ran
             code: 5,
             spent: 0,
             steps: 0,
-            cpu: Cpu { ..cpu },
+            cpu,
         };
     }
     turns(cpu, mem, budget)

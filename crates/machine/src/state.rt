@@ -1,4 +1,5 @@
-// Registers and flags: each setter takes the state by value and hands it back with other values.
+// Registers and flags: each setter takes the state by value and hands it back with other values. `Cpu { ..self }` hands it back
+// field by field, which the compiler keeps in registers; a changed state that is handed back whole goes through memory.
 use crate::Cpu;
 use crate::Ime;
 use crate::Mode;

@@ -56,11 +56,12 @@ fn end(cycles: u8, d: Done) -> Stepped
     Stepped {
         code: 0,
         cycles: cycles + d.extra,
-        cpu: Cpu { ..cpu },
+        cpu,
     }
 }
 
 impl Cpu {
+    // Field by field, or every step pays for it.
     fn refuse(self, code: u8) -> Stepped
         ensures { λ r. ⌜ r ≡ record { code = code; cycles = 0; cpu = self } ⌝ }
     {
@@ -118,7 +119,7 @@ impl Cpu {
                 return Stepped {
                     code: 0,
                     cycles: 1,
-                    cpu: Cpu { ..self },
+                    cpu: self,
                 };
             }
             if modes::is_stopped(mode) {
