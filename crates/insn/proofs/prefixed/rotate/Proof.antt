@@ -4,37 +4,15 @@ use Rattle.insn.proofs.Last.{last}
 use Rattle.insn.proofs.prefixed.rotate.Statement.{statement}
 use Rattle.insn.proofs.prefixed.rotate.Tie as tie
 
-returns : tie.Need-returns
-unfolding rotAt
-returns c = rw (c .match .keys1)
-
-returns-2 : tie.Need-returns-2
-unfolding rotAt
-returns-2 c = rw (c .match .keys2)
-
-returns-3 : tie.Need-returns-3
-unfolding rotAt
-returns-3 c = rw (c .match .keys3)
-
-returns-4 : tie.Need-returns-4
-unfolding rotAt
-returns-4 c = rw (c .match .keys4)
-
-returns-5 : tie.Need-returns-5
-unfolding rotAt
-returns-5 c = rw (c .match .keys5)
-
-returns-6 : tie.Need-returns-6
-unfolding rotAt
-returns-6 c = rw (c .match .keys6)
-
-returns-7 : tie.Need-returns-7
-unfolding rotAt
-returns-7 c = rw (c .match .keys7)
-
-returns-8 : tie.Need-returns-8
-unfolding rotAt
-returns-8 c = rw (last 7 _ (c .before .pre) (c .match .rest))
-
 pub rotate-spec : {M : Type 1} → statement M
-rotate-spec = tie.close (tie.spec returns returns-2 returns-3 returns-4 returns-5 returns-6 returns-7 returns-8)
+unfolding rotAt
+rotate-spec =
+    tie.close (tie.spec
+    (λ c. rw (c .match .keys1))
+    (λ c. rw (c .match .keys2))
+    (λ c. rw (c .match .keys3))
+    (λ c. rw (c .match .keys4))
+    (λ c. rw (c .match .keys5))
+    (λ c. rw (c .match .keys6))
+    (λ c. rw (c .match .keys7))
+    (λ c. rw (last 7 _ (c .before .pre) (c .match .rest))))

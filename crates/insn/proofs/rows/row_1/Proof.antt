@@ -7,69 +7,24 @@ use Rattle.insn.proofs.Told.{told}
 use Rattle.insn.proofs.rows.row_1.Statement.{statement}
 use Rattle.insn.proofs.rows.row_1.Tie as tie
 
-returns : tie.Need-returns
-unfolding grid shapes
-returns c = told _ _ (c .before .match .keys1) (c .given .ensures)
-
-returns-2 : tie.Need-returns-2
-unfolding grid shapes
-returns-2 c = told _ _ (c .before .match .keys2) (c .load-pair .ensures)
-
-returns-3 : tie.Need-returns-3
-unfolding grid shapes
-returns-3 c = told _ _ (c .before .match .keys3) (c .store-at .ensures)
-
-returns-4 : tie.Need-returns-4
-unfolding grid shapes
-returns-4 c = told _ _ (c .before .match .keys4) (c .inc-pair .ensures)
-
-returns-5 : tie.Need-returns-5
-unfolding grid shapes
-returns-5 c = told _ _ (c .before .match .keys5) (c .inc .ensures)
-
-returns-6 : tie.Need-returns-6
-unfolding grid shapes
-returns-6 c = told _ _ (c .before .match .keys6) (c .dec .ensures)
-
-returns-7 : tie.Need-returns-7
-unfolding grid shapes
-returns-7 c = told _ _ (c .before .match .keys7) (c .load-const .ensures)
-
-returns-8 : tie.Need-returns-8
-unfolding grid shapes
-returns-8 c = told _ _ (c .before .match .keys8) (c .rotate-a .ensures)
-
-returns-9 : tie.Need-returns-9
-unfolding grid shapes
-returns-9 c = told _ _ (c .before .match .keys9) (c .given2 .ensures)
-
-returns-10 : tie.Need-returns-10
-unfolding grid shapes
-returns-10 c = told _ _ (c .before .match .keys10) (c .add-hl .ensures)
-
-returns-11 : tie.Need-returns-11
-unfolding grid shapes
-returns-11 c = told _ _ (c .before .match .keys11) (c .load-at .ensures)
-
-returns-12 : tie.Need-returns-12
-unfolding grid shapes
-returns-12 c = told _ _ (c .before .match .keys12) (c .dec-pair .ensures)
-
-returns-13 : tie.Need-returns-13
-unfolding grid shapes
-returns-13 c = told _ _ (c .before .match .keys13) (c .inc2 .ensures)
-
-returns-14 : tie.Need-returns-14
-unfolding grid shapes
-returns-14 c = told _ _ (c .before .match .keys14) (c .dec2 .ensures)
-
-returns-15 : tie.Need-returns-15
-unfolding grid shapes
-returns-15 c = told _ _ (c .before .match .keys15) (c .load-const2 .ensures)
-
-returns-16 : tie.Need-returns-16
-unfolding grid shapes
-returns-16 c = told _ _ (last-of 1 _ (c .before .before .pre) (c .before .match .rest)) (c .rotate-a2 .ensures)
-
 pub row-1-spec : {M : Type 1} → statement M
-row-1-spec = tie.close (tie.spec (search needs) (search needs) (search needs) (search needs) (search needs) (search needs) (search needs) (search needs) (search needs) (search needs) (search needs) (search needs) (search needs) (search needs) (search needs) (search needs) returns returns-2 returns-3 returns-4 returns-5 returns-6 returns-7 returns-8 returns-9 returns-10 returns-11 returns-12 returns-13 returns-14 returns-15 returns-16)
+unfolding grid shapes
+row-1-spec =
+    tie.close (tie.spec
+    (search needs) (search needs) (search needs) (search needs) (search needs) (search needs) (search needs) (search needs) (search needs) (search needs) (search needs) (search needs) (search needs) (search needs) (search needs) (search needs)
+    (λ c. told _ _ (c .before .match .keys1) (c .given .ensures))
+    (λ c. told _ _ (c .before .match .keys2) (c .load-pair .ensures))
+    (λ c. told _ _ (c .before .match .keys3) (c .store-at .ensures))
+    (λ c. told _ _ (c .before .match .keys4) (c .inc-pair .ensures))
+    (λ c. told _ _ (c .before .match .keys5) (c .inc .ensures))
+    (λ c. told _ _ (c .before .match .keys6) (c .dec .ensures))
+    (λ c. told _ _ (c .before .match .keys7) (c .load-const .ensures))
+    (λ c. told _ _ (c .before .match .keys8) (c .rotate-a .ensures))
+    (λ c. told _ _ (c .before .match .keys9) (c .given2 .ensures))
+    (λ c. told _ _ (c .before .match .keys10) (c .add-hl .ensures))
+    (λ c. told _ _ (c .before .match .keys11) (c .load-at .ensures))
+    (λ c. told _ _ (c .before .match .keys12) (c .dec-pair .ensures))
+    (λ c. told _ _ (c .before .match .keys13) (c .inc2 .ensures))
+    (λ c. told _ _ (c .before .match .keys14) (c .dec2 .ensures))
+    (λ c. told _ _ (c .before .match .keys15) (c .load-const2 .ensures))
+    (λ c. told _ _ (last-of 1 _ (c .before .before .pre) (c .before .match .rest)) (c .rotate-a2 .ensures)))

@@ -7,69 +7,24 @@ use Rattle.insn.proofs.Told.{told}
 use Rattle.insn.proofs.rows.row_4.Statement.{statement}
 use Rattle.insn.proofs.rows.row_4.Tie as tie
 
-returns : tie.Need-returns
-unfolding grid shapes
-returns c = told _ _ (c .before .match .keys1) (c .load .ensures)
-
-returns-2 : tie.Need-returns-2
-unfolding grid shapes
-returns-2 c = told _ _ (c .before .match .keys2) (c .load2 .ensures)
-
-returns-3 : tie.Need-returns-3
-unfolding grid shapes
-returns-3 c = told _ _ (c .before .match .keys3) (c .load3 .ensures)
-
-returns-4 : tie.Need-returns-4
-unfolding grid shapes
-returns-4 c = told _ _ (c .before .match .keys4) (c .load4 .ensures)
-
-returns-5 : tie.Need-returns-5
-unfolding grid shapes
-returns-5 c = told _ _ (c .before .match .keys5) (c .load5 .ensures)
-
-returns-6 : tie.Need-returns-6
-unfolding grid shapes
-returns-6 c = told _ _ (c .before .match .keys6) (c .load6 .ensures)
-
-returns-7 : tie.Need-returns-7
-unfolding grid shapes
-returns-7 c = told _ _ (c .before .match .keys7) (c .load-hl .ensures)
-
-returns-8 : tie.Need-returns-8
-unfolding grid shapes
-returns-8 c = told _ _ (c .before .match .keys8) (c .load7 .ensures)
-
-returns-9 : tie.Need-returns-9
-unfolding grid shapes
-returns-9 c = told _ _ (c .before .match .keys9) (c .load8 .ensures)
-
-returns-10 : tie.Need-returns-10
-unfolding grid shapes
-returns-10 c = told _ _ (c .before .match .keys10) (c .load9 .ensures)
-
-returns-11 : tie.Need-returns-11
-unfolding grid shapes
-returns-11 c = told _ _ (c .before .match .keys11) (c .load10 .ensures)
-
-returns-12 : tie.Need-returns-12
-unfolding grid shapes
-returns-12 c = told _ _ (c .before .match .keys12) (c .load11 .ensures)
-
-returns-13 : tie.Need-returns-13
-unfolding grid shapes
-returns-13 c = told _ _ (c .before .match .keys13) (c .load12 .ensures)
-
-returns-14 : tie.Need-returns-14
-unfolding grid shapes
-returns-14 c = told _ _ (c .before .match .keys14) (c .load13 .ensures)
-
-returns-15 : tie.Need-returns-15
-unfolding grid shapes
-returns-15 c = told _ _ (c .before .match .keys15) (c .load-hl2 .ensures)
-
-returns-16 : tie.Need-returns-16
-unfolding grid shapes
-returns-16 c = told _ _ (last-of 4 _ (c .before .before .pre) (c .before .match .rest)) (c .load14 .ensures)
-
 pub row-4-spec : {M : Type 1} → statement M
-row-4-spec = tie.close (tie.spec (search needs) (search needs) (search needs) (search needs) (search needs) (search needs) (search needs) (search needs) (search needs) (search needs) (search needs) (search needs) (search needs) (search needs) (search needs) (search needs) returns returns-2 returns-3 returns-4 returns-5 returns-6 returns-7 returns-8 returns-9 returns-10 returns-11 returns-12 returns-13 returns-14 returns-15 returns-16)
+unfolding grid shapes
+row-4-spec =
+    tie.close (tie.spec
+    (search needs) (search needs) (search needs) (search needs) (search needs) (search needs) (search needs) (search needs) (search needs) (search needs) (search needs) (search needs) (search needs) (search needs) (search needs) (search needs)
+    (λ c. told _ _ (c .before .match .keys1) (c .load .ensures))
+    (λ c. told _ _ (c .before .match .keys2) (c .load2 .ensures))
+    (λ c. told _ _ (c .before .match .keys3) (c .load3 .ensures))
+    (λ c. told _ _ (c .before .match .keys4) (c .load4 .ensures))
+    (λ c. told _ _ (c .before .match .keys5) (c .load5 .ensures))
+    (λ c. told _ _ (c .before .match .keys6) (c .load6 .ensures))
+    (λ c. told _ _ (c .before .match .keys7) (c .load-hl .ensures))
+    (λ c. told _ _ (c .before .match .keys8) (c .load7 .ensures))
+    (λ c. told _ _ (c .before .match .keys9) (c .load8 .ensures))
+    (λ c. told _ _ (c .before .match .keys10) (c .load9 .ensures))
+    (λ c. told _ _ (c .before .match .keys11) (c .load10 .ensures))
+    (λ c. told _ _ (c .before .match .keys12) (c .load11 .ensures))
+    (λ c. told _ _ (c .before .match .keys13) (c .load12 .ensures))
+    (λ c. told _ _ (c .before .match .keys14) (c .load13 .ensures))
+    (λ c. told _ _ (c .before .match .keys15) (c .load-hl2 .ensures))
+    (λ c. told _ _ (last-of 4 _ (c .before .before .pre) (c .before .match .rest)) (c .load14 .ensures)))
