@@ -3,7 +3,7 @@ import pathlib
 import shutil
 import tempfile
 
-from . import prover
+from . import judging, prover
 
 COMPARED = pathlib.Path(__file__).resolve().parents[1] / "compared"
 VERDICTS = {0: "survived", 1: "seen", 2: "refused by proof"}
@@ -11,9 +11,9 @@ VERDICTS = {0: "survived", 1: "seen", 2: "refused by proof"}
 
 def ready(folder, root):
     """A copy of all crates in which those that the comparisons stand on are proved, for the edits to go on from."""
-    if folder.exists():
-        shutil.rmtree(folder)
-    copy(root, folder)
+    if not (folder / "crates").exists() or not judging.same(folder / "crates", root / "crates"):
+        shutil.rmtree(folder, ignore_errors=True)
+        copy(root, folder)
     status, text, _ = prover.run(["rt", "check", "trnadulek"], folder)
     if status != 0:
         raise SystemExit(f"sweep: the crates are not proved as they stand: {text.strip().split(chr(10))[-1]}")

@@ -8,27 +8,12 @@ use mathlib.Core.Path.{_≡_, refl, _∙_}
 use native.Mathlib.Nat.{add-zero, pow-succ'}
 use native.Mathlib.Omega.{arith}
 use lib.Dec.{lit<}
-use lib.ListN.{length, getD, length-set}
-use lib.Seq.{getD-set-same, getD-set-other}
+use lib.ListN.{length, getD}
 use Rattle.machine.specs.Memory.{byteAt, stored}
 use Rattle.machine.specs.declared.Cpu.{Cpu}
+use Rattle.machine.proofs.ReadOverWrite.{stored-length, stored-same, stored-other}
 use Rattle.routines.specs.Decimals.{Decimal, worth, Digits, num}
 use Rattle.routines.specs.Premises.{Apart, Outside, Given}
-
--- the one store, and the one read after it
-
-module _ (m : List ℕ) (at v : ℕ) where
-  pub stored-length : length (stored m at v) ≡ length m
-  unfolding stored
-  stored-length = length-set m at v
-
-  pub stored-same : at < length m → byteAt (stored m at v) at ≡ v
-  unfolding stored byteAt
-  stored-same h = getD-set-same m at v 0 h
-
-  pub stored-other : (i : ℕ) → i ≢ at → byteAt (stored m at v) i ≡ byteAt m i
-  unfolding stored byteAt
-  stored-other i h = getD-set-other m at i v 0 h
 
 -- numbers
 
