@@ -38,25 +38,10 @@ use Rattle.machine.specs.Interrupts.{lowestSet, lowestOf, vectoredOf, di
 use Rattle.machine.specs.Step.{accepting, insnAt, readyOf, endOf, finishedOf, stepOf}
 use Rattle.machine.specs.declared.Cpu.{Cpu}
 use Rattle.machine.specs.declared.Stepped.{Stepped}
+use Rattle.machine.proofs.Sound.{Sound, Bytes}
 use Rattle.machine.proofs.ReadOverWrite.{stored-same, stored-other, stored-out}
 use Rattle.machine.proofs.Stores.{Store, made, pushStores, callStores, placeStores, execStores, exec-made}
 use Rattle.machine.proofs.Rules.{ruled, nextRest, nextInsn, nextAfter, insnRun, by-rules, by-refusals}
-
--- a state whose registers are bytes and words, and a memory of bytes
-pub record Sound (s : Cpu) : Type 0 where
-  pub a : s .a < 256
-  pub f : s .f < 256
-  pub b : s .b < 256
-  pub c : s .c < 256
-  pub d : s .d < 256
-  pub e : s .e < 256
-  pub h : s .h < 256
-  pub l : s .l < 256
-  pub sp : s .sp < 65536
-  pub pc : s .pc < 65536
-
-abbrev pub Bytes : List ℕ → Type 0
-Bytes m = (at : ℕ) → byteAt m at < 256
 
 -- what is read
 

@@ -7,6 +7,7 @@ pub mod Costs
 pub mod Refused
 pub mod Stores
 pub mod Keeps
+pub mod Sound
 pub mod Bounds
 pub mod Arming
 pub mod Runs

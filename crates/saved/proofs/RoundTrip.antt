@@ -12,6 +12,7 @@ use lib.ListN.{length, take, drop, take-append-drop, length-drop}
 use lib.Seq.{take-all}
 use Rattle.machine.specs.State.{cpuOf}
 use Rattle.machine.specs.declared.Cpu.{Cpu}
+use Rattle.machine.proofs.Sound.{Sound}
 use Rattle.saved.specs.Digits.{valueOf, digitsOf, numberOf, bytesOf}
 use Rattle.saved.specs.Codes.{imeCode, modeCode}
 use Rattle.saved.specs.Head.{blockSize, headSize, imageSize, memorySize, blockOf, headOf, imageOf, memoryIn}
@@ -23,19 +24,6 @@ use Rattle.saved.proofs.CodesBack.{ime-back, ime-most, ime-code-back, m
 use Rattle.saved.proofs.Places.{bytesAt, part-bytes, bytes-at-length, bytes-at-below}
 use Rattle.saved.proofs.Accepted.{Right, accepted-right, right-accepted, accepted-head-fits, accepted-image-fits, head-fits-accepted, image-fits-accepted}
 use Rattle.saved.proofs.Written.{head-length, image-length}
-
--- a state as the code holds one: eight bytes and two words
-pub record Sound (s : Cpu) : Type 0 where
-  pub a-below : s .a < 256
-  pub f-below : s .f < 256
-  pub b-below : s .b < 256
-  pub c-below : s .c < 256
-  pub d-below : s .d < 256
-  pub e-below : s .e < 256
-  pub h-below : s .h < 256
-  pub l-below : s .l < 256
-  pub sp-below : s .sp < 65536
-  pub pc-below : s .pc < 65536
 
 -- bytes as the code holds them
 abbrev pub Bytes : List ℕ → Type 0
@@ -83,8 +71,8 @@ module _ (s : Cpu) (behind : List ℕ) where
   made-state : Sound s → stateIn (headOf s ++ behind) ≡ s
   unfolding layout
   made-state p =
-      let sp = number-back 2 (s .sp) (p .sp-below) in
-      let pc = number-back 2 (s .pc) (p .pc-below) in
+      let sp = number-back 2 (s .sp) (p .sp) in
+      let pc = number-back 2 (s .pc) (p .pc) in
       λ i.
       cpuOf (s .a) (s .f) (s .b) (s .c) (s .d) (s .e) (s .h) (s .l) (sp i) (pc i) (ime-back (s .ime) i)
       (mode-back (s .mode) i)
@@ -177,12 +165,12 @@ saved-bytes s p =
     let codes = below-more ime (below-more mode (below-none pos)) in
     let words = below-append _ (digits-below pos 2 (s .sp)) (below-append _ (digits-below pos 2 (s .pc)) codes) in
     let registers =
-    below-more (p .a-below)
-    (below-more (p .f-below)
-    (below-more (p .b-below)
-    (below-more (p .c-below)
-    (below-more (p .d-below)
-    (below-more (p .e-below) (below-more (p .h-below) (below-more (p .l-below) (below-none pos)))))))) in
+    below-more (p .a)
+    (below-more (p .f)
+    (below-more (p .b)
+    (below-more (p .c)
+    (below-more (p .d)
+    (below-more (p .e) (below-more (p .h) (below-more (p .l) (below-none pos)))))))) in
     below-more (lit< tt)
     (below-append _ (digits-below pos 4 blockSize)
     (below-append _ (below-append _ registers words) (digits-below pos 4 memorySize)))
@@ -191,14 +179,14 @@ pub loaded-sound : (h : List ℕ) → headSize ≤ length h → Bytes h → Soun
 unfolding stateIn byteIn flagsIn
 loaded-sound h long bytes =
     record {
-      a-below = bytes .at 5;
-      f-below = bytes .at 6;
-      b-below = bytes .at 7;
-      c-below = bytes .at 8;
-      d-below = bytes .at 9;
-      e-below = bytes .at 10;
-      h-below = bytes .at 11;
-      l-below = bytes .at 12;
-      sp-below = number-below 2 13 h (omega arith) bytes;
-      pc-below = number-below 2 15 h (omega arith) bytes;
+      a = bytes .at 5;
+      f = bytes .at 6;
+      b = bytes .at 7;
+      c = bytes .at 8;
+      d = bytes .at 9;
+      e = bytes .at 10;
+      h = bytes .at 11;
+      l = bytes .at 12;
+      sp = number-below 2 13 h (omega arith) bytes;
+      pc = number-below 2 15 h (omega arith) bytes;
     }

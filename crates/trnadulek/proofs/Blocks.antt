@@ -21,7 +21,8 @@ use Rattle.saved.specs.Refusals.{Accepted}
 use Rattle.saved.proofs.Accepted.{accepted-right}
 use Rattle.saved.proofs.CodesBack.{ime-back, ime-most, ime-code-back, mode-back, mode-most, mode-code-back}
 use Rattle.saved.proofs.Places.{bytesAt, part-bytes}
-use Rattle.saved.proofs.RoundTrip.{Sound, Bytes, loaded-as-saved, opened-as-saved, saved-as-loaded, saved-as-opened, loaded-sound}
+use Rattle.machine.proofs.Sound.{Sound}
+use Rattle.saved.proofs.RoundTrip.{Bytes, loaded-as-saved, opened-as-saved, saved-as-loaded, saved-as-opened, loaded-sound}
 use Rattle.trnadulek.specs.Block.{heldIn, hasCodes, blockLoaded, loadBlockOf, openBlockOf, savedIf, saveBlockOf, saveBlockImageOf}
 
 word-bytes : (w : ℕ) → bytesOf 2 w ≡ highOf w ∷ lowOf w ∷ []
@@ -39,8 +40,8 @@ held-back s p =
     rw (
       word-bytes (s .sp),
       word-bytes (s .pc),
-      word-back (s .sp) (p .sp-below),
-      word-back (s .pc) (p .pc-below),
+      word-back (s .sp) (p .sp),
+      word-back (s .pc) (p .pc),
       ime-back (s .ime),
       mode-back (s .mode),
     )
@@ -72,16 +73,16 @@ pub held-sound : (b : List ℕ) → Bytes b → Sound (heldIn b)
 unfolding heldIn byteIn
 held-sound b bytes =
     record {
-      a-below = bytes .at 0;
-      f-below = bytes .at 1;
-      b-below = bytes .at 2;
-      c-below = bytes .at 3;
-      d-below = bytes .at 4;
-      e-below = bytes .at 5;
-      h-below = bytes .at 6;
-      l-below = bytes .at 7;
-      sp-below = word-below _ _ (bytes .at 8) (bytes .at 9);
-      pc-below = word-below _ _ (bytes .at 10) (bytes .at 11);
+      a = bytes .at 0;
+      f = bytes .at 1;
+      b = bytes .at 2;
+      c = bytes .at 3;
+      d = bytes .at 4;
+      e = bytes .at 5;
+      h = bytes .at 6;
+      l = bytes .at 7;
+      sp = word-below _ _ (bytes .at 8) (bytes .at 9);
+      pc = word-below _ _ (bytes .at 10) (bytes .at 11);
     }
 
 -- a load of what a save wrote gives the block back
