@@ -91,7 +91,23 @@ def judge(status, text, seconds):
     for place, words in open_facts(text):
         return Answer("refused", place, words, seconds)
     for place, words in errors(text):
-        fit = "/proofs/" in place and not any(re.search(kind, words) for kind in UNFIT)
-        known = any(re.search(kind, words) for kind in FACT)
-        return Answer("refused" if fit and known else "unfit", place, words, seconds)
+        return Answer(weighed(place, words), place, words, seconds)
     return Answer("broken", "", "the check failed and named no error", seconds)
+
+
+def weighed(place, words):
+    """What an error shows: that a fact fails, or that something no longer fits."""
+    fit = "/proofs/" in place and not any(re.search(kind, words) for kind in UNFIT)
+    return "refused" if fit and any(re.search(kind, words) for kind in FACT) else "unfit"
+
+
+def own(text, crate, function):
+    """The verdict on one function of a check that failed: by the first error in its own proof or, where it has no proof file, by
+    what is left open of it."""
+    for place, words in errors(text):
+        if f"/proofs/{function.replace('::', '/')}/Proof.antt:" in place:
+            return Answer(weighed(place, words), place, words, 0)
+    left = re.search(rf"^fn {crate}::{function}: no proof: .*`search` does not close (.*)$", text, re.M)
+    if left:
+        return Answer("refused", "", f"{function} leaves {left.group(1)} open", 0)
+    return Answer("proved", "", f"nothing in the proof of {function} fails", 0)

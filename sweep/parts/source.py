@@ -19,6 +19,9 @@ class Function:
     def name(self):
         return "::".join(self.path)
 
+    def text(self):
+        return self.file.read_text()[slice(*self.body)]
+
 
 @dataclass
 class Reading:
