@@ -1,15 +1,15 @@
 -- What is not refused: the number of a load is 0 exactly where the bytes have each property that a refusal names.
 -- Assumes nothing.
-use Prim.Native.Nat.{ℕ, _%_, _≤_}
+use Prim.Native.Nat.{ℕ, _%_}
 use mathlib.Core.Bool.{Bool, true, false, _&&_}
 use mathlib.Core.List.{List}
 use mathlib.Core.Path.{_≡_, refl}
-use borrow.Author.Tests.{eqb-true, eqb-false, leb-true, eq-eqb, le-leb}
-use lib.Dec.{eqb, leb}
+use borrow.Author.Tests.{eqb-true, eqb-false, eq-eqb}
+use lib.Dec.{eqb}
 use lib.ListN.{length}
 use Rattle.machine.specs.declared.Cpu.{Cpu}
-use Rattle.saved.specs.Head.{version, blockSize, headSize, memorySize, imageSize}
-use Rattle.saved.specs.Head.{versionIn, blockSizeIn, memorySizeIn, imeCodeIn, modeCodeIn, flagsIn}
+use Rattle.saved.specs.Block.{blockSize, flagsIn, hasCodes}
+use Rattle.saved.specs.Head.{version, headSize, memorySize, imageSize, versionIn, blockSizeIn, blockIn, memorySizeIn}
 use Rattle.saved.specs.Refusals.{Accepted, flagsCode, codesCode, lengthsCode, versionCode, sizeCode, loadCode}
 use Rattle.saved.specs.Refusals.{saveHeadSize, saveHeadCode, saveMemorySize, saveImageSize, saveImageCode}
 
@@ -19,9 +19,8 @@ pub record Right (size : ℕ) (h : List ℕ) : Type 0 where
   pub version-is : versionIn h ≡ version
   pub block-is : blockSizeIn h ≡ blockSize
   pub memory-is : memorySizeIn h ≡ memorySize
-  pub ime-most : imeCodeIn h ≤ 2
-  pub mode-most : modeCodeIn h ≤ 3
-  pub flags-low : flagsIn h % 16 ≡ 0
+  pub has-codes : hasCodes (blockIn h) ≡ true
+  pub flags-low : flagsIn (blockIn h) % 16 ≡ 0
 
 both : (x y : Bool) → x && y ≡ true → (x ≡ true) × (y ≡ true)
 both true y e = (refl, e)
@@ -34,13 +33,13 @@ past-flags true p = refl
 past-flags false p = absurd (eqb-false 2 0 refl p)
 
 past-codes : (t : Bool) (h : List ℕ) → Accepted (codesCode t h)
-    → (t ≡ true) × Accepted (flagsCode (eqb (flagsIn h % 16) 0))
+    → (t ≡ true) × Accepted (flagsCode (eqb (flagsIn (blockIn h) % 16) 0))
 unfolding codesCode
 past-codes true h p = (refl, p)
 past-codes false h p = absurd (eqb-false 9 0 refl p)
 
 past-lengths : (t : Bool) (h : List ℕ) → Accepted (lengthsCode t h)
-    → (t ≡ true) × Accepted (codesCode (leb (imeCodeIn h) 2 && leb (modeCodeIn h) 3) h)
+    → (t ≡ true) × Accepted (codesCode (hasCodes (blockIn h)) h)
 unfolding lengthsCode
 past-lengths true h p = (refl, p)
 past-lengths false h p = absurd (eqb-false 8 0 refl p)
@@ -66,14 +65,12 @@ accepted-right size h p =
     let lengths = past-lengths _ h (version .1) in
     let codes = past-codes _ h (lengths .1) in
     let lengths-are = both _ _ (lengths .0) in
-    let codes-are = both _ _ (codes .0) in
     record {
       size-is = eqb-true _ _ (size .0);
       version-is = eqb-true _ _ (version .0);
       block-is = eqb-true _ _ (lengths-are .0);
       memory-is = eqb-true _ _ (lengths-are .1);
-      ime-most = leb-true _ _ (codes-are .0);
-      mode-most = leb-true _ _ (codes-are .1);
+      has-codes = codes .0;
       flags-low = eqb-true _ _ (past-flags _ (codes .1));
     }
 
@@ -86,8 +83,7 @@ right-accepted size h r =
       eq-eqb _ _ (r .version-is),
       eq-eqb _ _ (r .block-is),
       eq-eqb _ _ (r .memory-is),
-      le-leb _ _ (r .ime-most),
-      le-leb _ _ (r .mode-most),
+      r .has-codes,
       eq-eqb _ _ (r .flags-low),
     )
 

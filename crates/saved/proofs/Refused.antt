@@ -3,7 +3,7 @@
 use Prim.Native.Nat.{ℕ, zero, suc}
 use mathlib.Core.List.{List, []}
 use mathlib.Core.Path.{_≡_, refl}
-use Rattle.saved.specs.Head.{blank}
+use Rattle.saved.specs.Block.{blank}
 use Rattle.saved.specs.Refusals.{Accepted}
 use Rattle.saved.specs.Answers.{stateIf, memoryIf, startIf, leftBy}
 

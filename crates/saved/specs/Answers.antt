@@ -7,7 +7,8 @@ use mathlib.Core.Path.{_≡_}
 use denote.Ref.{RefT, now, ptr}
 use Rattle.machine.specs.Answers.{With}
 use Rattle.machine.specs.declared.Cpu.{Cpu}
-use Rattle.saved.specs.Head.{headSize, imageSize, headOf, imageOf, stateIn, memoryIn, blank}
+use Rattle.saved.specs.Block.{blank}
+use Rattle.saved.specs.Head.{headSize, imageSize, headOf, imageOf, stateIn, memoryIn}
 use Rattle.saved.specs.Refusals.{loadCode, saveHeadCode, saveImageCode}
 use Rattle.saved.specs.declared.Loaded.{Loaded}
 

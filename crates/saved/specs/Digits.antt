@@ -2,7 +2,7 @@
 -- Assumes nothing.
 use Prim.Native.Nat.{ℕ, zero, suc, _+_, _*_, _/_, _%_, _^_}
 use mathlib.Core.List.{List, [], _∷_}
-use lib.ListN.{length}
+use lib.ListN.{length, getD, take, drop}
 
 -- the number that the digits make, highest first
 unfoldable pub valueOf : ℕ → List ℕ → ℕ
@@ -20,3 +20,10 @@ numberOf bytes = valueOf 256 bytes
 
 unfoldable pub bytesOf : ℕ → ℕ → List ℕ
 bytesOf k n = digitsOf 256 k n
+
+-- what stands in bytes at a place: a byte, and a number of k bytes
+unfoldable pub byteIn : ℕ → List ℕ → ℕ
+byteIn at bytes = getD bytes at 0
+
+unfoldable pub numberIn : ℕ → ℕ → List ℕ → ℕ
+numberIn k at bytes = numberOf (take k (drop at bytes))

@@ -5,11 +5,11 @@ use Prim.Native.Nat.{ℕ, _%_}
 use mathlib.Core.Bool.{Bool, true, false, _&&_}
 use mathlib.Core.List.{List}
 use mathlib.Core.Path.{_≡_}
-use lib.Dec.{eqb, leb}
+use lib.Dec.{eqb}
 use lib.ListN.{length}
 use Rattle.machine.specs.declared.Cpu.{Cpu}
-use Rattle.saved.specs.Head.{version, blockSize, headSize, memorySize, imageSize}
-use Rattle.saved.specs.Head.{versionIn, blockSizeIn, memorySizeIn, imeCodeIn, modeCodeIn, flagsIn}
+use Rattle.saved.specs.Block.{blockSize, flagsIn, hasCodes}
+use Rattle.saved.specs.Head.{version, headSize, memorySize, imageSize, versionIn, blockSizeIn, blockIn, memorySizeIn}
 
 -- not refused
 abbrev pub Accepted : ℕ → Type 0
@@ -22,11 +22,11 @@ flagsCode false = 2
 
 -- loading: 6, 7, 8, 9, 2
 unfoldable pub codesCode : Bool → List ℕ → ℕ
-codesCode true h = flagsCode (eqb (flagsIn h % 16) 0)
+codesCode true h = flagsCode (eqb (flagsIn (blockIn h) % 16) 0)
 codesCode false h = 9
 
 unfoldable pub lengthsCode : Bool → List ℕ → ℕ
-lengthsCode true h = codesCode (leb (imeCodeIn h) 2 && leb (modeCodeIn h) 3) h
+lengthsCode true h = codesCode (hasCodes (blockIn h)) h
 lengthsCode false h = 8
 
 unfoldable pub versionCode : Bool → List ℕ → ℕ

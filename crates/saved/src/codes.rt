@@ -15,7 +15,7 @@ pub fn ime_code(ime: Ime) -> u8
 }
 
 // A code above 2 stands for none: callers refuse it before.
-pub fn ime_at(code: u8) -> Ime
+pub(crate) fn ime_at(code: u8) -> Ime
     ensures { λ r. ⌜ r ≡ imeAt code ⌝ }
 {
     match code {
@@ -37,7 +37,7 @@ pub fn mode_code(mode: Mode) -> u8
 }
 
 // A code above 3 stands for none: callers refuse it before.
-pub fn mode_at(code: u8) -> Mode
+pub(crate) fn mode_at(code: u8) -> Mode
     ensures { λ r. ⌜ r ≡ modeAt code ⌝ }
 {
     match code {

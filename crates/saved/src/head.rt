@@ -1,15 +1,12 @@
 // A head, byte by byte: made from a state, and read.
-use crate::codes;
+use crate::block;
 use crate::numbers;
-use arith::words;
 use machine::Cpu;
-use machine::Ime;
-use machine::Mode;
 ghost use mathlib.Core.Path.{_≡_};
 ghost use Prim.Native.Nat.{_≤_, _%_};
 ghost use lib.Dec.{eqb};
 ghost use lib.ListN.{length};
-ghost use Rattle.saved.specs.Head.{headSize, version, headOf, stateIn, versionIn, blank};
+ghost use Rattle.saved.specs.Head.{headSize, version, headOf, blockIn, stateIn, versionIn};
 ghost use Rattle.saved.specs.Refusals.{flagsCode, versionCode, loadCode};
 
 // The version and the two lengths that a head holds.
@@ -30,38 +27,54 @@ pub(crate) const IMAGE_SIZE: usize = 65_559;
 pub(crate) fn bytes_of(cpu: Cpu) -> [u8; HEAD_SIZE]
     ensures { λ r. ⌜ r ≡ headOf cpu ⌝ }
 {
-    let ime = cpu.ime;
-    let mode = cpu.mode;
-    let ime_code = codes::ime_code(ime);
-    let mode_code = codes::mode_code(mode);
-    let sp_high = words::high(cpu.sp);
-    let sp_low = words::low(cpu.sp);
-    let pc_high = words::high(cpu.pc);
-    let pc_low = words::low(cpu.pc);
+    let block = block::bytes_of(cpu);
     [
         VERSION,
         0,
         0,
         0,
         14,
-        cpu.a,
-        cpu.f,
-        cpu.b,
-        cpu.c,
-        cpu.d,
-        cpu.e,
-        cpu.h,
-        cpu.l,
-        sp_high,
-        sp_low,
-        pc_high,
-        pc_low,
-        ime_code,
-        mode_code,
+        block[0],
+        block[1],
+        block[2],
+        block[3],
+        block[4],
+        block[5],
+        block[6],
+        block[7],
+        block[8],
+        block[9],
+        block[10],
+        block[11],
+        block[12],
+        block[13],
         0,
         1,
         0,
         0,
+    ]
+}
+
+// The block in a head.
+fn block_in(head: &[u8]) -> [u8; 14]
+    requires { ⌜ headSize ≤ length (now head) ⌝ }
+    ensures { λ r. ⌜ r ≡ blockIn (now (head .entry)) ⌝ }
+{
+    [
+        head[5],
+        head[6],
+        head[7],
+        head[8],
+        head[9],
+        head[10],
+        head[11],
+        head[12],
+        head[13],
+        head[14],
+        head[15],
+        head[16],
+        head[17],
+        head[18],
     ]
 }
 
@@ -70,44 +83,8 @@ pub(crate) fn state_in(head: &[u8]) -> Cpu
     requires { ⌜ headSize ≤ length (now head) ⌝ }
     ensures { λ r. ⌜ r ≡ stateIn (now (head .entry)) ⌝ }
 {
-    let ime = codes::ime_at(head[17]);
-    let mode = codes::mode_at(head[18]);
-    let sp = words::word(head[13], head[14]);
-    let pc = words::word(head[15], head[16]);
-    Cpu {
-        a: head[5],
-        f: head[6],
-        b: head[7],
-        c: head[8],
-        d: head[9],
-        e: head[10],
-        h: head[11],
-        l: head[12],
-        sp,
-        pc,
-        ime,
-        mode,
-    }
-}
-
-// The all-zero state.
-pub(crate) fn blank_state() -> Cpu
-    ensures { λ r. ⌜ r ≡ blank ⌝ }
-{
-    Cpu {
-        a: 0,
-        f: 0,
-        b: 0,
-        c: 0,
-        d: 0,
-        e: 0,
-        h: 0,
-        l: 0,
-        sp: 0,
-        pc: 0,
-        ime: Ime::Off,
-        mode: Mode::Running,
-    }
+    let block = block_in(head);
+    block::state_of(&block)
 }
 
 // Refusal 2.
@@ -131,13 +108,11 @@ fn content_refusal(head: &[u8]) -> u8
     if numbers::number_at(head, 19) != MEMORY_LENGTH {
         return 8;
     }
-    if 2 < head[17] {
-        return 9;
+    let block = block_in(head);
+    if block::has_codes(&block) {
+        return flags_refusal(block[1]);
     }
-    if 3 < head[18] {
-        return 9;
-    }
-    flags_refusal(head[6])
+    9
 }
 
 // The refusal of a head or an image that is to have so many bytes, and 0 where there is none.

@@ -1,6 +1,6 @@
 // The saved state: a head of 23 bytes, and an image of 65,559, which is a head and the memory after it.
+pub mod block;
 pub mod codes;
-mod copies;
 mod head;
 pub mod numbers;
 
@@ -28,7 +28,7 @@ fn load(bytes: &[u8], size: usize) -> Loaded
         let cpu = head::state_in(bytes);
         Loaded { code, cpu }
     } else {
-        let cpu = head::blank_state();
+        let cpu = block::blank_state();
         Loaded { code, cpu }
     }
 }
@@ -40,7 +40,7 @@ pub fn load_head(head: &[u8]) -> Loaded
     load(head, head::HEAD_SIZE)
 }
 
-// Opens a whole image: the code and the state. Its memory is what `memory_of` and `memory_of_mut` return.
+// Opens a whole image: the code and the state. Its memory is what `memory_of` returns.
 pub fn check_image(image: &[u8]) -> Loaded
     ensures { λ r. ⌜ r ≡ openOf (now (image .entry)) .out ⌝ }
 {
@@ -59,18 +59,6 @@ pub fn memory_of(image: &[u8]) -> &[u8]
     }
 }
 
-// The same, to be written.
-pub fn memory_of_mut(image: &mut [u8]) -> &mut [u8]
-    ensures { λ r. ⌜ MemoryOf (image .entry) r ⌝ }
-{
-    let opened = check_image(image);
-    if opened.code == 0 {
-        &mut image[head::HEAD_SIZE..]
-    } else {
-        &mut image[..0]
-    }
-}
-
 fn save_head_refusal(cpu: Cpu, head: &[u8]) -> u8
     ensures { λ r. ⌜ r ≡ saveHeadCode cpu (now (head .entry)) ⌝ }
 {
@@ -86,8 +74,8 @@ pub fn save_head(cpu: Cpu, head: &mut [u8]) -> u8
 {
     let head_refusal = save_head_refusal(cpu, head);
     if head_refusal == 0 {
-        let bytes = head::bytes_of(cpu);
-        copies::copy_in(&bytes, head);
+        let made = head::bytes_of(cpu);
+        bytes::copy(&made, head);
         return 0;
     }
     head_refusal
@@ -111,9 +99,9 @@ pub fn save_image(cpu: Cpu, mem: &[u8], image: &mut [u8]) -> u8
 {
     let image_refusal = save_image_refusal(cpu, mem, image);
     if image_refusal == 0 {
-        let bytes = head::bytes_of(cpu);
-        copies::copy_in(&bytes, image);
-        copies::copy_in(mem, &mut image[head::HEAD_SIZE..]);
+        let made = head::bytes_of(cpu);
+        bytes::copy(&made, image);
+        bytes::copy(mem, &mut image[head::HEAD_SIZE..]);
         return 0;
     }
     image_refusal

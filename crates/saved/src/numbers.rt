@@ -3,8 +3,7 @@ ghost use mathlib.Core.Path.{_≡_};
 ghost use mathlib.Core.List.{[], _∷_};
 ghost use Prim.Native.Nat.{_+_, _≤_};
 ghost use lib.ListN.{length};
-ghost use Rattle.saved.specs.Digits.{numberOf};
-ghost use Rattle.saved.specs.Head.{numberIn};
+ghost use Rattle.saved.specs.Digits.{numberOf, numberIn};
 
 pub fn number(first: u8, second: u8, third: u8, last: u8) -> u32
     ensures { λ r. ⌜ r ≡ numberOf (first ∷ second ∷ third ∷ last ∷ []) ⌝ }

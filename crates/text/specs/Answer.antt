@@ -13,7 +13,7 @@ use Rattle.machine.specs.declared.Cpu.{Cpu}
 use Rattle.machine.specs.declared.Ran.{Ran}
 use Rattle.saved.specs.Answers.{loadHeadOf}
 use Rattle.saved.specs.Codes.{imeCode, modeCode}
-use Rattle.saved.specs.Head.{numberIn}
+use Rattle.saved.specs.Digits.{numberIn}
 use Rattle.saved.specs.declared.Loaded.{Loaded}
 use Rattle.text.specs.Digits.{decimalOf, hexOf}
 use Rattle.text.specs.Written.{blank, written}

@@ -1,89 +1,23 @@
--- A state and its block, each made from the other; and so a load and a save through a block, heads and images.
+-- A load and a save through a state block undo each other, of heads and of images.
 -- Assumes nothing.
-use Prim.Native.Nat.{ℕ, _<_, _≤_}
-use mathlib.Core.Bool.{Bool, true, false, _&&_}
-use mathlib.Core.List.{List, [], _∷_}
-use mathlib.Core.Path.{_≡_, refl, sym, _∙_}
-use native.Mathlib.Nat.{div-one}
+use Prim.Native.Nat.{ℕ, _≤_}
+use mathlib.Core.Bool.{Bool, true, false}
+use mathlib.Core.List.{List}
+use mathlib.Core.Path.{_≡_, refl}
 use native.Mathlib.Omega.{arith}
-use borrow.Author.Tests.{eqb-false, leb-true, le-leb}
-use lib.Dec.{leb}
-use lib.ListN.{length, getD}
-use lib.Seq.{take-all}
-use Rattle.arith.specs.Words.{wordOf, highOf, lowOf}
-use Rattle.arith.proofs.Laws.{word-below, word-back, high-back, low-back}
+use borrow.Author.Tests.{eqb-false}
+use lib.ListN.{length}
 use Rattle.machine.specs.Answers.{keeping}
-use Rattle.machine.specs.declared.Cpu.{Cpu}
-use Rattle.saved.specs.Digits.{bytesOf, digitsOf}
-use Rattle.saved.specs.Head.{blockSize, headSize, imageSize, byteIn, blockOf}
+use Rattle.machine.proofs.Sound.{Sound}
+use Rattle.saved.specs.Block.{blockSize, heldIn, hasCodes}
+use Rattle.saved.specs.Head.{headSize, imageSize}
 use Rattle.saved.specs.Answers.{loadHeadOf, loadOf, loadedBy, stateIf, openOf, saveHeadOf, saveImageOf}
 use Rattle.saved.specs.Refusals.{Accepted}
 use Rattle.saved.proofs.Accepted.{accepted-right}
-use Rattle.saved.proofs.CodesBack.{ime-back, ime-most, ime-code-back, mode-back, mode-most, mode-code-back}
-use Rattle.saved.proofs.Places.{bytesAt, part-bytes}
-use Rattle.machine.proofs.Sound.{Sound}
-use Rattle.saved.proofs.RoundTrip.{Bytes, loaded-as-saved, opened-as-saved, saved-as-loaded, saved-as-opened, loaded-sound}
-use Rattle.trnadulek.specs.Block.{heldIn, hasCodes, blockLoaded, loadBlockOf, openBlockOf, savedIf, saveBlockOf, saveBlockImageOf}
-
-word-bytes : (w : ℕ) → bytesOf 2 w ≡ highOf w ∷ lowOf w ∷ []
-unfolding bytesOf digitsOf highOf lowOf
-word-bytes w = simp div-one
-
-two-bytes : (hi lo : ℕ) → hi < 256 → lo < 256 → bytesOf 2 (wordOf hi lo) ≡ hi ∷ lo ∷ []
-two-bytes hi lo p q = word-bytes (wordOf hi lo) ∙ rw (high-back hi lo p q, low-back hi lo q)
-
--- the block of a state holds that state
-
-pub held-back : (s : Cpu) → Sound s → heldIn (blockOf s) ≡ s
-unfolding heldIn blockOf byteIn
-held-back s p =
-    rw (
-      word-bytes (s .sp),
-      word-bytes (s .pc),
-      word-back (s .sp) (p .sp),
-      word-back (s .pc) (p .pc),
-      ime-back (s .ime),
-      mode-back (s .mode),
-    )
-
-pub has-codes : (s : Cpu) → hasCodes (blockOf s) ≡ true
-unfolding hasCodes blockOf bytesOf digitsOf byteIn
-has-codes s = rw (le-leb _ _ (ime-most (s .ime)), le-leb _ _ (mode-most (s .mode)))
-
--- a block of bytes whose codes stand for something is the block of the state that it holds
-
-codes-most : (x y : Bool) → x && y ≡ true → (x ≡ true) × (y ≡ true)
-codes-most true y e = (refl, e)
-codes-most false true e = (e, refl)
-codes-most false false e = (e, e)
-
-pub block-back : (b : List ℕ) → length b ≡ blockSize → Bytes b → hasCodes b ≡ true → blockOf (heldIn b) ≡ b
-unfolding heldIn hasCodes blockOf byteIn bytesAt
-block-back b size bytes codes =
-    let most = codes-most (leb (getD b 12 0) 2) (leb (getD b 13 0) 3) codes in
-    let ime = ime-code-back (getD b 12 0) (leb-true _ _ (most .0)) in
-    let mode = mode-code-back (getD b 13 0) (leb-true _ _ (most .1)) in
-    let sp = two-bytes _ _ (bytes .at 8) (bytes .at 9) in
-    let pc = two-bytes _ _ (bytes .at 10) (bytes .at 11) in
-    let whole = take-all blockSize b (omega (arith, size)) in
-    rw (sp, pc, ime, mode)
-    (sym (part-bytes blockSize 0 b (omega (arith, size))) ∙ whole)
-
-pub held-sound : (b : List ℕ) → Bytes b → Sound (heldIn b)
-unfolding heldIn byteIn
-held-sound b bytes =
-    record {
-      a = bytes .at 0;
-      f = bytes .at 1;
-      b = bytes .at 2;
-      c = bytes .at 3;
-      d = bytes .at 4;
-      e = bytes .at 5;
-      h = bytes .at 6;
-      l = bytes .at 7;
-      sp = word-below _ _ (bytes .at 8) (bytes .at 9);
-      pc = word-below _ _ (bytes .at 10) (bytes .at 11);
-    }
+use Rattle.saved.proofs.BigEndian.{Bytes}
+use Rattle.saved.proofs.Blocks.{held-back, has-codes, block-back, held-sound}
+use Rattle.saved.proofs.RoundTrip.{loaded-as-saved, opened-as-saved, saved-as-loaded, saved-as-opened, loaded-sound}
+use Rattle.trnadulek.specs.Block.{blockLoaded, loadBlockOf, openBlockOf, savedIf, saveBlockOf, saveBlockImageOf}
 
 -- a load of what a save wrote gives the block back
 

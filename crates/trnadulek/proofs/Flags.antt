@@ -1,4 +1,4 @@
--- The low four bits of F are 0 in a head that loads, and a run leaves them at 0, whatever the memory and the budget.
+-- The low four bits of F are 0 in a head or an image that loads, and a run leaves them at 0, whatever the memory and the budget.
 -- Assumes nothing.
 use Prim.Native.Nat.{ℕ, _%_}
 use mathlib.Core.Bool.{Bool, true, false}
@@ -10,13 +10,14 @@ use Rattle.machine.specs.Run.{budgetRun, flagsRun, lengthRun, runOf}
 use Rattle.machine.specs.declared.Cpu.{Cpu}
 use Rattle.machine.proofs.Keeps.{step-low}
 use Rattle.machine.proofs.Runs.{run-keeps}
-use Rattle.saved.specs.Head.{headSize, stateIn}
+use Rattle.saved.specs.Block.{heldIn}
+use Rattle.saved.specs.Head.{stateIn}
 use Rattle.saved.specs.Refusals.{Accepted, loadCode}
 use Rattle.saved.proofs.Accepted.{accepted-right}
 
-pub loads-low : (h : List ℕ) → Accepted (loadCode headSize h) → stateIn h .f % 16 ≡ 0
-unfolding stateIn
-loads-low h accepted = accepted-right headSize h accepted .flags-low
+pub loads-low : (size : ℕ) (h : List ℕ) → Accepted (loadCode size h) → stateIn h .f % 16 ≡ 0
+unfolding stateIn heldIn
+loads-low size h accepted = accepted-right size h accepted .flags-low
 
 abbrev Low : Cpu → List ℕ → Type 0
 Low s m = s .f % 16 ≡ 0

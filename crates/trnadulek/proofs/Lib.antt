@@ -1,7 +1,7 @@
 -- Laws that belong to no one function, and what every promise determines.
 pub mod Blocks
 pub mod Flags
-pub mod Steps
+pub mod Images
 pub mod Unchanged
 pub mod Unnamed
 pub mod Unique

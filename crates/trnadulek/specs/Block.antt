@@ -1,27 +1,13 @@
--- A state block: the bytes of a head that are the state itself. Document 01, "Saved state".
+-- Loading and saving through a state block: what is answered, and what is left in the block, the head or the image.
+-- Document 01, "Saved state" and "Refusal numbers".
 -- Assumes nothing.
 use Prim.Native.Nat.{ℕ}
-use mathlib.Core.Bool.{Bool, true, false, _&&_}
+use mathlib.Core.Bool.{Bool, true, false}
 use mathlib.Core.List.{List}
-use lib.Dec.{leb}
-use Rattle.arith.specs.Words.{wordOf}
 use Rattle.machine.specs.Answers.{With, keeping}
-use Rattle.machine.specs.State.{cpuOf}
-use Rattle.machine.specs.declared.Cpu.{Cpu}
-use Rattle.saved.specs.Codes.{imeAt, modeAt}
-use Rattle.saved.specs.Head.{byteIn, blockOf}
+use Rattle.saved.specs.Block.{blockOf, heldIn, hasCodes}
 use Rattle.saved.specs.Answers.{loadHeadOf, openOf, saveHeadOf, saveImageOf}
 use Rattle.saved.specs.declared.Loaded.{Loaded}
-
--- the state that a block holds: A F B C D E H L, SP, PC, IME, mode
-unfoldable pub heldIn : List ℕ → Cpu
-heldIn b =
-    cpuOf (byteIn 0 b) (byteIn 1 b) (byteIn 2 b) (byteIn 3 b) (byteIn 4 b) (byteIn 5 b) (byteIn 6 b) (byteIn 7 b)
-    (wordOf (byteIn 8 b) (byteIn 9 b)) (wordOf (byteIn 10 b) (byteIn 11 b)) (imeAt (byteIn 12 b)) (modeAt (byteIn 13 b))
-
--- the codes of IME and mode stand for something
-unfoldable pub hasCodes : List ℕ → Bool
-hasCodes b = leb (byteIn 12 b) 2 && leb (byteIn 13 b) 3
 
 -- a load answers its number and leaves the state in the block: the all-zero state where it is refused
 unfoldable pub blockLoaded : Loaded → With ℕ

@@ -1,7 +1,8 @@
--- A step and a run of the state that a head holds: the answer, and what is left in the head, the memory and the lent counts.
--- Document 01, "Refusal numbers" and "Runs and counts".
+-- A step and a run of the state in a block, and a run of an image where it lies: the answer, and what is left in everything that
+-- was lent. Document 01, "Refusal numbers" and "Runs and counts".
 -- Assumes nothing.
 use Prim.Native.Nat.{ℕ, zero, suc}
+use mathlib.Core.Bool.{Bool, true, false}
 use mathlib.Core.List.{List}
 use mathlib.Core.Path.{_≡_}
 use Rattle.machine.specs.Answers.{With}
@@ -9,63 +10,94 @@ use Rattle.machine.specs.Step.{stepOf}
 use Rattle.machine.specs.Run.{runOf}
 use Rattle.machine.specs.declared.Stepped.{Stepped}
 use Rattle.machine.specs.declared.Ran.{Ran}
-use Rattle.saved.specs.Head.{headSize, headOf, stateIn}
+use Rattle.saved.specs.Block.{blockOf, heldIn, hasCodes}
+use Rattle.saved.specs.Head.{imageSize, imageOf, stateIn, memoryIn}
 use Rattle.saved.specs.Refusals.{loadCode}
 
--- a step: its number, the head, the memory and the cycles
-pub record HeadStep : Type 0 where
+-- a step: its number, the state block, the memory and the cycles
+pub record BlockStep : Type 0 where
   pub code : ℕ
-  pub head : List ℕ
+  pub state : List ℕ
   pub memory : List ℕ
   pub cycles : ℕ
 
-pub record StepGives (w : HeadStep) (code : ℕ) (head memory : List ℕ) (cycles : ℕ) : Type 0 where
+pub record StepGives (w : BlockStep) (code : ℕ) (state memory : List ℕ) (cycles : ℕ) : Type 0 where
   pub answers : code ≡ w .code
-  pub leaves-head : head ≡ w .head
+  pub leaves-state : state ≡ w .state
   pub leaves-memory : memory ≡ w .memory
   pub leaves-cycles : cycles ≡ w .cycles
 
--- a step that was due leaves the head of the state that it answers, which is the state given where it was refused
-unfoldable pub headStepped : With Stepped → HeadStep
-headStepped w = record { code = w .out .code; head = headOf (w .out .cpu); memory = w .mem; cycles = w .out .cycles }
+-- a step leaves the block of the state that it answers, which is the state given where it was refused
+unfoldable pub blockStepped : With Stepped → BlockStep
+blockStepped w = record { code = w .out .code; state = blockOf (w .out .cpu); memory = w .mem; cycles = w .out .cycles }
 
--- a head that does not load changes nothing, and there are no cycles
-unfoldable pub stepIf : ℕ → List ℕ → List ℕ → HeadStep
-stepIf zero head memory = headStepped (stepOf (stateIn head) memory)
-stepIf (suc n) head memory = record { code = suc n; head = head; memory = memory; cycles = 0 }
+-- 9 comes first: a block whose codes stand for nothing holds no state, and nothing changes
+unfoldable pub stepIf : Bool → List ℕ → List ℕ → BlockStep
+stepIf true b m = blockStepped (stepOf (heldIn b) m)
+stepIf false b m = record { code = 9; state = b; memory = m; cycles = 0 }
 
-unfoldable pub stepHeadOf : List ℕ → List ℕ → HeadStep
-stepHeadOf head memory = stepIf (loadCode headSize head) head memory
+unfoldable pub stepBlockOf : List ℕ → List ℕ → BlockStep
+stepBlockOf b m = stepIf (hasCodes b) b m
 
--- a run: its number, the head, the memory, the cycles spent and the steps taken
-pub record HeadRun : Type 0 where
+-- a run: its number, the state block, the memory, the cycles spent and the steps taken
+pub record BlockRun : Type 0 where
   pub code : ℕ
-  pub head : List ℕ
+  pub state : List ℕ
   pub memory : List ℕ
   pub spent : ℕ
   pub steps : ℕ
 
-pub record RunGives (w : HeadRun) (code : ℕ) (head memory : List ℕ) (spent steps : ℕ) : Type 0 where
+pub record RunGives (w : BlockRun) (code : ℕ) (state memory : List ℕ) (spent steps : ℕ) : Type 0 where
   pub answers : code ≡ w .code
-  pub leaves-head : head ≡ w .head
+  pub leaves-state : state ≡ w .state
   pub leaves-memory : memory ≡ w .memory
   pub leaves-spent : spent ≡ w .spent
   pub leaves-steps : steps ≡ w .steps
 
--- the same of a run
-unfoldable pub headRan : With Ran → HeadRun
-headRan w =
+unfoldable pub blockRan : With Ran → BlockRun
+blockRan w =
     record {
       code = w .out .code;
-      head = headOf (w .out .cpu);
+      state = blockOf (w .out .cpu);
       memory = w .mem;
       spent = w .out .spent;
       steps = w .out .steps;
     }
 
-unfoldable pub runIf : ℕ → ℕ → List ℕ → List ℕ → HeadRun
-runIf zero budget head memory = headRan (runOf budget (stateIn head) memory)
-runIf (suc n) budget head memory = record { code = suc n; head = head; memory = memory; spent = 0; steps = 0 }
+unfoldable pub runIf : Bool → ℕ → List ℕ → List ℕ → BlockRun
+runIf true budget b m = blockRan (runOf budget (heldIn b) m)
+runIf false budget b m = record { code = 9; state = b; memory = m; spent = 0; steps = 0 }
 
-unfoldable pub runHeadOf : ℕ → List ℕ → List ℕ → HeadRun
-runHeadOf budget head memory = runIf (loadCode headSize head) budget head memory
+unfoldable pub runBlockOf : ℕ → List ℕ → List ℕ → BlockRun
+runBlockOf budget b m = runIf (hasCodes b) budget b m
+
+-- a run of an image: its number, the image, the cycles spent and the steps taken
+pub record ImageRun : Type 0 where
+  pub code : ℕ
+  pub image : List ℕ
+  pub spent : ℕ
+  pub steps : ℕ
+
+pub record ImageGives (w : ImageRun) (code : ℕ) (image : List ℕ) (spent steps : ℕ) : Type 0 where
+  pub answers : code ≡ w .code
+  pub leaves-image : image ≡ w .image
+  pub leaves-spent : spent ≡ w .spent
+  pub leaves-steps : steps ≡ w .steps
+
+-- head and memory are always those of one state: the image of what the run answers
+unfoldable pub imageRan : With Ran → ImageRun
+imageRan w =
+    record {
+      code = w .out .code;
+      image = imageOf (w .out .cpu) (w .mem);
+      spent = w .out .spent;
+      steps = w .out .steps;
+    }
+
+-- an image that does not open changes in nothing
+unfoldable pub runImageIf : ℕ → ℕ → List ℕ → ImageRun
+runImageIf zero budget image = imageRan (runOf budget (stateIn image) (memoryIn image))
+runImageIf (suc n) budget image = record { code = suc n; image = image; spent = 0; steps = 0 }
+
+unfoldable pub runImageOf : ℕ → List ℕ → ImageRun
+runImageOf budget image = runImageIf (loadCode imageSize image) budget image

@@ -1,9 +1,10 @@
--- The sizes that a host can ask for, by their numbers. Document 01, "What the core is", "Refusal numbers" and "Saved state".
+-- The sizes that a host can ask for, by their numbers, and the library's version. Document 01, "What the core is", "Refusal numbers" and "Saved state".
 -- Assumes nothing.
 use Prim.Native.Nat.{ℕ}
 use mathlib.Core.List.{List, [], _∷_}
 use lib.ListN.{getD}
-use Rattle.saved.specs.Head.{blockSize, headSize, memorySize, imageSize}
+use Rattle.saved.specs.Block.{blockSize}
+use Rattle.saved.specs.Head.{headSize, memorySize, imageSize}
 
 -- a budget above it is refused with 5
 abbrev pub largestBudget : ℕ
@@ -15,3 +16,7 @@ sizes = headSize ∷ blockSize ∷ memorySize ∷ imageSize ∷ largestBudget �
 
 unfoldable pub sizeOf : ℕ → ℕ
 sizeOf which = getD sizes which 0
+
+-- the version of this library, 0.2.0: 10,000 times the first number, 100 times the second, and the third
+abbrev pub libraryVersion : ℕ
+libraryVersion = 200

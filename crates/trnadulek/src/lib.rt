@@ -1,64 +1,87 @@
-// The core for a host in another language: numbers and lent bytes in, a refusal number out. A head is the 23 bytes of a saved
-// state, a state block the 14 bytes inside it that are the state itself. No function asks anything of its caller or keeps
-// anything between two calls.
-mod block;
+// The core for a host in another language: numbers and lent bytes in, a refusal number out. The live state is a state block, 14
+// bytes; a head is the 23 bytes of a saved state, with its block inside. No function asks anything of its caller or keeps anything
+// between two calls.
 mod words;
 
 use insn::table;
 use machine::run;
+use saved::block;
 ghost use mathlib.Core.Path.{_≡_};
 ghost use Rattle.insn.specs.Table.{lengthOf, untakenOf};
 ghost use Rattle.machine.specs.Answers.{Gives};
 ghost use Rattle.trnadulek.specs.Block.{loadBlockOf, openBlockOf, saveBlockOf, saveBlockImageOf};
-ghost use Rattle.trnadulek.specs.Calls.{StepGives, stepHeadOf, RunGives, runHeadOf};
-ghost use Rattle.trnadulek.specs.Sizes.{sizeOf};
+ghost use Rattle.trnadulek.specs.Calls.{StepGives, stepBlockOf, RunGives, runBlockOf, ImageGives, runImageOf};
+ghost use Rattle.trnadulek.specs.Sizes.{sizeOf, libraryVersion};
 ghost use Rattle.trnadulek.specs.Words.{wordsOf, tellOf};
 
-// One step of the state in a head. Refusals 6, 7, 8, 9, 2, then 1, 3, 4, which change nothing and leave 0 cycles.
+// One step of the state in a block. Refusals 9 for its codes, then 1, 2, 3, 4, which change nothing and leave 0 cycles.
 #[no_mangle]
-pub extern "C" fn trnadulek_step(head: &mut [u8], memory: &mut [u8], cycles: &mut u8) -> u8
-    ensures { λ r. ⌜ StepGives (stepHeadOf (now (head .entry)) (now (memory .entry))) r (now (head .exit)) (now (memory .exit)) (now (cycles .exit)) ⌝ }
+pub extern "C" fn trnadulek_step(state: &mut [u8; 14], memory: &mut [u8], cycles: &mut u8) -> u8
+    ensures { λ r. ⌜ StepGives (stepBlockOf (now (state .entry)) (now (memory .entry))) r (now (state .exit)) (now (memory .exit)) (now (cycles .exit)) ⌝ }
 {
-    let loaded = saved::load_head(&*head);
-    let code = loaded.code;
-    if code != 0 {
-        *cycles = 0;
-        return code;
+    if block::has_codes(&*state) {
+        let cpu = block::state_of(&*state);
+        let stepped = run::step(cpu, memory);
+        let after = stepped.cpu;
+        *state = block::bytes_of(after);
+        *cycles = stepped.cycles;
+        return stepped.code;
     }
-    let cpu = loaded.cpu;
-    let stepped = run::step(cpu, memory);
-    let after = stepped.cpu;
-    saved::save_head(after, head);
-    *cycles = stepped.cycles;
-    stepped.code
+    *cycles = 0;
+    9
 }
 
-// Steps until the budget is met. Refusals 6, 7, 8, 9, 2, then 1, 5, which change nothing and leave 0 cycles and 0 steps; 3 or 4
-// where a step is refused, and then the steps before it stay.
+// Steps until the budget is met. Refusals 9 for the block's codes, then 1, 2, 5, which change nothing and leave 0 cycles and 0
+// steps; 3 or 4 where a step is refused, and then the steps before it stay.
 #[no_mangle]
 pub extern "C" fn trnadulek_run(
-    head: &mut [u8],
+    state: &mut [u8; 14],
     memory: &mut [u8],
     budget: u32,
     spent: &mut u32,
     steps: &mut u32,
 ) -> u8
-    ensures { λ r. ⌜ RunGives (runHeadOf budget (now (head .entry)) (now (memory .entry))) r (now (head .exit)) (now (memory .exit)) (now (spent .exit)) (now (steps .exit)) ⌝ }
+    ensures { λ r. ⌜ RunGives (runBlockOf budget (now (state .entry)) (now (memory .entry))) r (now (state .exit)) (now (memory .exit)) (now (spent .exit)) (now (steps .exit)) ⌝ }
 {
-    let loaded = saved::load_head(&*head);
-    let code = loaded.code;
+    if block::has_codes(&*state) {
+        let cpu = block::state_of(&*state);
+        let ran = run::run(cpu, memory, budget);
+        let last = ran.cpu;
+        *state = block::bytes_of(last);
+        *spent = ran.spent;
+        *steps = ran.steps;
+        return ran.code;
+    }
+    *spent = 0;
+    *steps = 0;
+    9
+}
+
+// The same of an image where it lies, whose head and memory are always those of one state. Refusals 6, 7, 8, 9, 2, 5, which
+// change nothing and leave 0 cycles and 0 steps; 3 or 4 where a step is refused, and then the steps before it stay.
+#[no_mangle]
+pub extern "C" fn trnadulek_run_image(
+    image: &mut [u8],
+    budget: u32,
+    spent: &mut u32,
+    steps: &mut u32,
+) -> u8
+    ensures { λ r. ⌜ ImageGives (runImageOf budget (now (image .entry))) r (now (image .exit)) (now (spent .exit)) (now (steps .exit)) ⌝ }
+{
+    let opened = saved::check_image(&*image);
+    let code = opened.code;
     if code != 0 {
         *spent = 0;
         *steps = 0;
         return code;
     }
-    let cpu = loaded.cpu;
-    let ran = run::run(cpu, memory, budget);
-    let after = ran.cpu;
-    saved::save_head(after, head);
-    *spent = ran.spent;
-    *steps = ran.steps;
-    ran.code
+    let cpu = opened.cpu;
+    let played = run::run(cpu, &mut image[23..], budget);
+    let after = played.cpu;
+    saved::save_head(after, &mut image[..23]);
+    *spent = played.spent;
+    *steps = played.steps;
+    played.code
 }
 
 // The state block of a head. Refusals 6, 7, 8, 9, 2, which leave a block of zeros.
@@ -88,10 +111,10 @@ pub extern "C" fn trnadulek_save_head(state: &[u8; 14], head: &mut [u8]) -> u8
 pub extern "C" fn trnadulek_open_image(image: &[u8], state: &mut [u8; 14]) -> u8
     ensures { λ r. ⌜ Gives (openBlockOf (now (image .entry))) r (now (state .exit)) ⌝ }
 {
-    let opened = saved::check_image(image);
-    let cpu = opened.cpu;
+    let checked = saved::check_image(image);
+    let cpu = checked.cpu;
     *state = block::bytes_of(cpu);
-    opened.code
+    checked.code
 }
 
 // The image of a state block and a memory. Refusals 9, 6, 1, 2, which change nothing.
@@ -134,6 +157,14 @@ pub extern "C" fn trnadulek_size(which: u32) -> u32
         4 => 1_048_576,
         _ => 0,
     }
+}
+
+// The version: 10,000 times the first number, 100 times the second, and the third.
+#[no_mangle]
+pub extern "C" fn trnadulek_version() -> u32
+    ensures { λ r. ⌜ r ≡ libraryVersion ⌝ }
+{
+    200
 }
 
 // The words for a refusal number, written if there is room for all of them. The answer is how many bytes they have.

@@ -1,8 +1,10 @@
 -- `save_head` writes a whole head where nothing is refused.
 use borrow.Author.Needs.{needs}
-use mathlib.Core.Path.{sym, ap, _∙_}
+use mathlib.Core.Path.{_≡_, sym, ap, _∙_}
 use native.Mathlib.Omega.{arith}
-use lib.ListN.{length}
+use mathlib.Core.List.{_++_}
+use lib.ListN.{length, take, drop}
+use lib.Seq.{take-length}
 use Rattle.saved.specs.Refusals.{Accepted, saveHeadCode}
 use Rattle.saved.specs.Answers.{saveHeadOf, savedBy, leftBy}
 use Rattle.saved.proofs.Accepted.{HeadFits, accepted-head-fits}
@@ -24,8 +26,8 @@ refused : (c : tie.Else1)
     → let a = c .before .before .before .before .args in Accepted (saveHeadCode (a .cpu) (a .head .now)) → ⊥
 refused c e = omega arith
 
-copy-in-requires : tie.Need-copy-in-requires
-copy-in-requires c κs =
+copy-requires : tie.Need-copy-requires
+copy-requires c κs =
     let bytes = c .before .before in
     let size = ap length (bytes .bytes-of .ensures) ∙ head-length (start (bytes .before) .args .cpu) in
     omega (arith, size, fits (bytes .before) .size-is)
@@ -36,10 +38,13 @@ returns c =
     let copied = c .before .before in
     let bytes = copied .before .before .before in
     let then = bytes .before in
+    let made = bytes .bytes-of .result in
+    let left : copied .copy .last .1 .0 ≡ take (length made) made ++ drop (length made) (start then .args .head .now) =
+    copied .copy .ensures .1 in
     record {
       answers = sym (accepted then);
       leaves =
-          rw (accepted then, copied .copy-in .ensures, bytes .bytes-of .ensures)
+          rw (accepted then, left, take-length, bytes .bytes-of .ensures)
           (head-written (start then .args .cpu) _ (fits then .size-is));
     }
 
@@ -51,4 +56,4 @@ returns-2 c =
 pub save-head-spec : {M : Type 1} → statement M
 save-head-spec =
     tie.close
-    (tie.spec (search needs) (search needs) (search needs) copy-in-requires (search needs) returns (search needs) returns-2)
+    (tie.spec (search needs) (search needs) (search needs) copy-requires (search needs) returns (search needs) returns-2)

@@ -2,7 +2,10 @@
 use borrow.Author.Needs.{needs}
 use mathlib.Core.Path.{_≡_, sym, ap, _∙_}
 use native.Mathlib.Omega.{arith}
-use lib.ListN.{length}
+use Prim.Native.Nat.{ℕ, _-_}
+use mathlib.Core.List.{List, _++_}
+use lib.ListN.{length, take, drop}
+use lib.Seq.{take-length}
 use Rattle.saved.specs.Head.{imageSize}
 use Rattle.saved.specs.Refusals.{Accepted, saveImageCode}
 use Rattle.saved.specs.Answers.{saveImageOf, savedBy, leftBy}
@@ -26,28 +29,37 @@ refused : (c : tie.Else1)
     Accepted (saveImageCode (a .cpu) (a .mem .now) (a .image .now)) → ⊥
 refused c e = omega arith
 
+-- the part of the image behind the head, once the head is in it
+abbrev behind-part : tie.After-copy → List ℕ
+behind-part c = let image = c .copy .last .1 .0 in take (length image - 23) (drop 23 image)
+
 -- the image once the head is in it
-written : (c : tie.After-copy-in)
-    → let a = start (c .before .before .before .before) .args in c .copy-in .last .1 .0 ≡ headed (a .cpu) (a .image .now)
-written c = rw (c .copy-in .ensures, c .before .before .before .bytes-of .ensures)
+written : (c : tie.After-copy)
+    → let a = start (c .before .before .before .before) .args in c .copy .last .1 .0 ≡ headed (a .cpu) (a .image .now)
+written c =
+    let bytes = c .before .before .before in
+    let made = bytes .bytes-of .result in
+    let image = start (bytes .before) .args .image .now in
+    let left : c .copy .last .1 .0 ≡ take (length made) made ++ drop (length made) image = c .copy .ensures .1 in
+    rw (left, take-length, bytes .bytes-of .ensures)
 
-kept : (c : tie.After-copy-in) → length (c .copy-in .last .1 .0) ≡ imageSize
-kept c = c .copy-in .kept .1 .0 ∙ fits (c .before .before .before .before) .size-is
+kept : (c : tie.After-copy) → length (c .copy .last .1 .0) ≡ imageSize
+kept c = c .copy .kept .1 .0 ∙ fits (c .before .before .before .before) .size-is
 
-copy-in-requires : tie.Need-copy-in-requires
-copy-in-requires c κs =
+copy-requires : tie.Need-copy-requires
+copy-requires c κs =
     let bytes = c .before .before in
     let size = ap length (bytes .bytes-of .ensures) ∙ head-length (start (bytes .before) .args .cpu) in
     omega (arith, size, fits (bytes .before) .size-is)
 
-sub-copy-in : tie.Need-sub-copy-in
-sub-copy-in c = omega (arith, kept (c .before .before))
+sub-copy : tie.Need-sub-copy
+sub-copy c = omega (arith, kept (c .before .before))
 
-part-copy-in-start : tie.Need-part-copy-in-start
-part-copy-in-start c = omega (arith, kept (c .before .before))
+part-copy-start : tie.Need-part-copy-start
+part-copy-start c = omega (arith, kept (c .before .before))
 
-copy-in-requires-2 : tie.Need-copy-in-requires-2
-copy-in-requires-2 c κs =
+copy-requires-2 : tie.Need-copy-requires-2
+copy-requires-2 c κs =
     let copied = c .before .before .before in
     let then = copied .before .before .before .before in
     let right = fits then in
@@ -61,10 +73,14 @@ returns c =
     let copied = c .before .before .before .before .before .before in
     let then = copied .before .before .before .before in
     let right = fits then in
+    let mem = start then .args .mem .now in
+    let part = behind-part copied in
+    let left : c .before .before .copy2 .last .1 .0 ≡ mem ++ drop (length mem) part =
+    c .before .before .copy2 .ensures .1 ∙ ap (λ (l : List ℕ). l ++ drop (length mem) part) (take-length mem) in
     record {
       answers = sym (accepted then);
       leaves =
-          rw (accepted then, c .before .before .copy-in2 .ensures, written copied)
+          rw (accepted then, left, written copied)
           (image-written _ _ _ (right .size-is) (right .memory-is));
     }
 
@@ -76,5 +92,5 @@ returns-2 c =
 pub save-image-spec : {M : Type 1} → statement M
 save-image-spec =
     tie.close
-    (tie.spec (search needs) (search needs) (search needs) copy-in-requires sub-copy-in part-copy-in-start (search needs)
-    copy-in-requires-2 (search needs) returns (search needs) returns-2)
+    (tie.spec (search needs) (search needs) (search needs) copy-requires sub-copy part-copy-start (search needs)
+    copy-requires-2 (search needs) returns (search needs) returns-2)

@@ -1,26 +1,18 @@
--- `bytes_of` writes each field at its place.
+-- `bytes_of` puts the block between the version and the two lengths.
 use borrow.Author.Needs.{needs}
-use Rattle.saved.specs.Head.{headOf, blockOf}
 use Rattle.saved.specs.Digits.{bytesOf, digitsOf}
-use native.Mathlib.Nat.{div-one}
-use Rattle.arith.specs.Words.{highOf, lowOf}
+use Rattle.saved.specs.Block.{blockOf}
+use Rattle.saved.specs.Head.{headOf}
 use Rattle.saved.proofs.head.bytes_of.Statement.{statement}
 use Rattle.saved.proofs.head.bytes_of.Tie as tie
 
 returns : tie.Need-returns
-unfolding headOf blockOf bytesOf digitsOf highOf lowOf
-returns c =
-    simp (
-      c .low2 .ensures,
-      c .before .high2 .ensures,
-      c .before .before .low .ensures,
-      c .before .before .before .high .ensures,
-      c .before .before .before .before .mode-code .ensures,
-      c .before .before .before .before .before .ime-code .ensures,
-      div-one,
-    )
+unfolding headOf blockOf bytesOf digitsOf
+returns c = rw (c .bytes-of .ensures)
 
 pub bytes-of-spec : {M : Type 1} → statement M
 bytes-of-spec =
     tie.close
-    (tie.spec (search needs) (search needs) (search needs) (search needs) (search needs) (search needs) returns)
+    (tie.spec (search needs) (search needs) (search needs) (search needs) (search needs) (search needs) (search needs)
+    (search needs) (search needs) (search needs) (search needs) (search needs) (search needs) (search needs)
+    (search needs) returns)

@@ -1,14 +1,16 @@
--- `content_refusal` tests the version, both lengths, both codes and F, in their order. Each test says the same as the
+-- `content_refusal` tests the version, both lengths, the codes and F, in their order. Each test says the same as the
 -- definition's own, so that after each the number is that of the tests that are left.
 use borrow.Author.Needs.{needs}
-use Prim.Native.Nat.{ℕ, _%_, _≤_, _<_}
+use Prim.Native.Nat.{ℕ, _%_}
 use mathlib.Core.Bool.{_&&_}
 use mathlib.Core.List.{List}
 use mathlib.Core.Path.{_≡_, sym, _∙_}
 use native.Mathlib.Omega.{arith}
-use borrow.Author.Tests.{eq-eqb, ne-eqb, le-leb, lt-leb}
-use lib.Dec.{eqb, leb}
-use Rattle.saved.specs.Head.{byteIn, versionIn, blockSizeIn, memorySizeIn, imeCodeIn, modeCodeIn, flagsIn, version, blockSize, memorySize}
+use borrow.Author.Tests.{eq-eqb, ne-eqb}
+use lib.Dec.{eqb}
+use Rattle.saved.specs.Digits.{byteIn}
+use Rattle.saved.specs.Block.{blockSize, flagsIn, hasCodes}
+use Rattle.saved.specs.Head.{versionIn, blockSizeIn, blockIn, memorySizeIn, version, memorySize}
 use Rattle.saved.specs.Refusals.{versionCode, lengthsCode, codesCode, flagsCode}
 use Rattle.saved.proofs.head.content_refusal.Statement.{statement}
 use Rattle.saved.proofs.head.content_refusal.Tie as tie
@@ -29,12 +31,6 @@ start2 c = start1 (c .before .before)
 
 abbrev start3 : tie.Else3 → tie.Start
 start3 c = start2 (c .before .before)
-
-abbrev start4 : tie.Else4 → tie.Start
-start4 c = start3 (c .before .before)
-
-abbrev start5 : tie.Else5 → tie.Start
-start5 c = start4 (c .before .before)
 
 -- the version
 
@@ -80,8 +76,7 @@ memory-is : (c : tie.Else3) → memorySizeIn (head (start3 c)) ≡ memorySize
 unfolding memorySizeIn
 memory-is c = omega arith
 
-after-memory : (c : tie.Else3)
-    → let h = head (start3 c) in code (start3 c) ≡ codesCode (leb (imeCodeIn h) 2 && leb (modeCodeIn h) 3) h
+after-memory : (c : tie.Else3) → let h = head (start3 c) in code (start3 c) ≡ codesCode (hasCodes (blockIn h)) h
 unfolding lengthsCode
 after-memory c = after-block (c .before .before) ∙ rw (eq-eqb _ _ (memory-is c))
 
@@ -93,49 +88,33 @@ returns-3 : tie.Need-returns-3
 unfolding lengthsCode
 returns-3 c = rw (after-block (c .before .before), ne-eqb _ _ (memory-is-not c))
 
--- the code of IME
+-- the codes, and F
 
-ime-most : (c : tie.Else4) → imeCodeIn (head (start4 c)) ≤ 2
-unfolding imeCodeIn byteIn
-ime-most c = omega arith
-
-after-ime : (c : tie.Else4) → let h = head (start4 c) in code (start4 c) ≡ codesCode (leb (modeCodeIn h) 3) h
-after-ime c = after-memory (c .before .before) ∙ rw (le-leb _ _ (ime-most c))
-
-ime-more : (c : tie.Then4) → 2 < imeCodeIn (head (start3 (c .before .before)))
-unfolding imeCodeIn byteIn
-ime-more c = omega arith
+codes-are : (c : tie.After-has-codes) → c .has-codes .result ≡ hasCodes (blockIn (head (start3 (c .before .before .before))))
+codes-are c = c .has-codes .ensures ∙ rw (c .before .before .block-in .ensures)
 
 returns-4 : tie.Need-returns-4
-unfolding codesCode
-returns-4 c = rw (after-memory (c .before .before), lt-leb _ _ (ime-more c))
-
--- the code of the mode
-
-mode-most : (c : tie.Else5) → modeCodeIn (head (start5 c)) ≤ 3
-unfolding modeCodeIn byteIn
-mode-most c = omega arith
-
-after-mode : (c : tie.Else5) → code (start5 c) ≡ flagsCode (eqb (flagsIn (head (start5 c)) % 16) 0)
-unfolding codesCode
-after-mode c = after-ime (c .before .before) ∙ rw (le-leb _ _ (mode-most c))
-
-mode-more : (c : tie.Then5) → 3 < modeCodeIn (head (start4 (c .before .before)))
-unfolding modeCodeIn byteIn
-mode-more c = omega arith
+unfolding codesCode flagsIn byteIn
+returns-4 c =
+    let then = c .before in
+    let codes = then .before in
+    let block = codes .before .before in
+    rw (
+      c .flags-refusal .ensures,
+      block .block-in .ensures,
+      after-memory (block .before),
+      ← (codes-are codes),
+      then .if4 .taken,
+    )
 
 returns-5 : tie.Need-returns-5
 unfolding codesCode
-returns-5 c = rw (after-ime (c .before .before), lt-leb _ _ (mode-more c))
-
--- F
-
-returns-6 : tie.Need-returns-6
-unfolding flagsIn byteIn
-returns-6 c = c .flags-refusal .ensures ∙ sym (after-mode (c .before .before))
+returns-5 c =
+    let codes = c .before in
+    rw (after-memory (codes .before .before .before), ← (codes-are codes), c .if4 .left)
 
 pub content-refusal-spec : {M : Type 1} → statement M
 content-refusal-spec =
     tie.close
-    (tie.spec (search needs) returns (search needs) returns-2 (search needs) returns-3 (search needs) returns-4
-    (search needs) returns-5 (search needs) (search needs) returns-6)
+    (tie.spec (search needs) returns (search needs) returns-2 (search needs) returns-3 (search needs) (search needs)
+    (search needs) (search needs) returns-4 returns-5)

@@ -1,7 +1,7 @@
 -- `number_at` is the number of the four bytes from a place on.
 use borrow.Author.Needs.{needs}
 use native.Mathlib.Numerals.{towards-suc}
-use Rattle.saved.specs.Head.{numberIn}
+use Rattle.saved.specs.Digits.{numberIn}
 use Rattle.saved.proofs.Places.{bytesAt, part-bytes}
 use Rattle.saved.proofs.numbers.number_at.Statement.{statement}
 use Rattle.saved.proofs.numbers.number_at.Tie as tie

@@ -1,13 +1,14 @@
 // The state block: A F B C D E H L, SP, PC, the codes of IME and mode.
+use crate::codes;
 use arith::words;
 use machine::Cpu;
-use saved::codes;
+use machine::Ime;
+use machine::Mode;
 ghost use mathlib.Core.Path.{_≡_};
-ghost use Rattle.saved.specs.Head.{blockOf};
-ghost use Rattle.trnadulek.specs.Block.{hasCodes, heldIn};
+ghost use Rattle.saved.specs.Block.{blockOf, hasCodes, heldIn, blank};
 
 // The block of a state.
-pub(crate) fn bytes_of(cpu: Cpu) -> [u8; 14]
+pub fn bytes_of(cpu: Cpu) -> [u8; 14]
     ensures { λ r. ⌜ r ≡ blockOf cpu ⌝ }
 {
     let ime = cpu.ime;
@@ -37,14 +38,14 @@ pub(crate) fn bytes_of(cpu: Cpu) -> [u8; 14]
 }
 
 // The codes of IME and mode stand for something.
-pub(crate) fn has_codes(block: &[u8; 14]) -> bool
+pub fn has_codes(block: &[u8; 14]) -> bool
     ensures { λ r. ⌜ r ≡ hasCodes (now (block .entry)) ⌝ }
 {
     (block[12] <= 2) & (block[13] <= 3)
 }
 
 // The state that a block holds.
-pub(crate) fn state_of(block: &[u8; 14]) -> Cpu
+pub fn state_of(block: &[u8; 14]) -> Cpu
     ensures { λ r. ⌜ r ≡ heldIn (now (block .entry)) ⌝ }
 {
     let ime = codes::ime_at(block[12]);
@@ -64,5 +65,25 @@ pub(crate) fn state_of(block: &[u8; 14]) -> Cpu
         pc,
         ime,
         mode,
+    }
+}
+
+// The all-zero state.
+pub(crate) fn blank_state() -> Cpu
+    ensures { λ r. ⌜ r ≡ blank ⌝ }
+{
+    Cpu {
+        a: 0,
+        f: 0,
+        b: 0,
+        c: 0,
+        d: 0,
+        e: 0,
+        h: 0,
+        l: 0,
+        sp: 0,
+        pc: 0,
+        ime: Ime::Off,
+        mode: Mode::Running,
     }
 }

@@ -1,12 +1,12 @@
 -- `state_of` reads each field at its place.
 use borrow.Author.Needs.{needs}
-use Rattle.saved.specs.Head.{byteIn}
-use Rattle.trnadulek.specs.Block.{heldIn}
-use Rattle.trnadulek.proofs.block.state_of.Statement.{statement}
-use Rattle.trnadulek.proofs.block.state_of.Tie as tie
+use Rattle.saved.specs.Digits.{byteIn}
+use Rattle.saved.specs.Block.{flagsIn, imeCodeIn, modeCodeIn, heldIn}
+use Rattle.saved.proofs.block.state_of.Statement.{statement}
+use Rattle.saved.proofs.block.state_of.Tie as tie
 
 returns : tie.Need-returns
-unfolding heldIn byteIn
+unfolding heldIn byteIn flagsIn imeCodeIn modeCodeIn
 returns c =
     let pc = c .before .before .before .before .before .before .before .before in
     let sp = pc .before .before .before in

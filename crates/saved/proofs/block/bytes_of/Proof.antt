@@ -1,14 +1,11 @@
 -- `bytes_of` writes each field at its place.
 use borrow.Author.Needs.{needs}
-use native.Mathlib.Nat.{div-one}
-use Rattle.arith.specs.Words.{highOf, lowOf}
-use Rattle.saved.specs.Digits.{bytesOf, digitsOf}
-use Rattle.saved.specs.Head.{blockOf}
-use Rattle.trnadulek.proofs.block.bytes_of.Statement.{statement}
-use Rattle.trnadulek.proofs.block.bytes_of.Tie as tie
+use Rattle.saved.specs.Block.{blockOf}
+use Rattle.saved.proofs.block.bytes_of.Statement.{statement}
+use Rattle.saved.proofs.block.bytes_of.Tie as tie
 
 returns : tie.Need-returns
-unfolding blockOf bytesOf digitsOf highOf lowOf
+unfolding blockOf
 returns c =
     simp (
       c .low2 .ensures,
@@ -17,7 +14,6 @@ returns c =
       c .before .before .before .high .ensures,
       c .before .before .before .before .mode-code .ensures,
       c .before .before .before .before .before .ime-code .ensures,
-      div-one,
     )
 
 pub bytes-of-spec : {M : Type 1} → statement M

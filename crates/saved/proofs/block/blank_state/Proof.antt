@@ -1,8 +1,8 @@
 -- `blank_state` is the all-zero state.
 use mathlib.Core.Path.{refl}
-use Rattle.saved.specs.Head.{blank}
-use Rattle.saved.proofs.head.blank_state.Statement.{statement}
-use Rattle.saved.proofs.head.blank_state.Tie as tie
+use Rattle.saved.specs.Block.{blank}
+use Rattle.saved.proofs.block.blank_state.Statement.{statement}
+use Rattle.saved.proofs.block.blank_state.Tie as tie
 
 returns : tie.Need-returns
 unfolding blank
