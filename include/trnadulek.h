@@ -5,35 +5,43 @@
  * number is a refusal that says why. There is nothing to test before a call:
  * any lengths and any contents are either done or refused.
  *
+ *   state         14 bytes, the state block: the registers, IME and mode
  *   memory       65,536 bytes, flat, all of them readable and writable
- *   head          23 bytes, a saved state (below)
+ *   head          23 bytes, a saved state: the state block is its bytes 5 to 18
  *   image     65,559 bytes, a head and the memory after it
- *   state         14 bytes, the state block: bytes 5 to 18 of a head
  *
- * A head, all numbers big-endian:
+ * A state block, and a head around it; all numbers are big-endian:
  *
- *   0          version, 1
- *   1 to 4     length of the state block, 14
- *   5 to 12    A F B C D E H L
- *   13, 14     SP
- *   15, 16     PC
- *   17         IME: 0 Off, 1 Arming, 2 On
- *   18         mode: 0 Running, 1 Repeat, 2 Halted, 3 Stopped
- *   19 to 22   length of the memory, 65,536
+ *   block      head
+ *              0          version of the saved form, 1
+ *              1 to 4     length of the state block, 14
+ *   0 to 7     5 to 12    A F B C D E H L
+ *   8, 9       13, 14     SP
+ *   10, 11     15, 16     PC
+ *   12         17         IME: 0 Off, 1 Arming, 2 On
+ *   13         18         mode: 0 Running, 1 Repeat, 2 Halted, 3 Stopped
+ *              19 to 22   length of the memory, 65,536
  *
- * What a call needs of its pointers, and all it needs: none is NULL, also
- * where its length is 0; each is valid for its length, or for the 14 bytes of
- * a state block, or for the one number it leads to; what one of them may
- * write overlaps nothing that another one leads to; and no other thread
- * writes there, or reads what may be written, before the call returns.
+ * The block is what a host keeps between two calls. A later version may give
+ * it more bytes at its end: make room of TRNADULEK_STATE_SIZE, and compare
+ * that with trnadulek_size(1) once at the start.
+ *
+ * What a call needs of its pointers, and all it needs: each is valid for its
+ * length, or for the bytes of a state block, or for the one number that it
+ * leads to; what one of them may write overlaps nothing that another one leads
+ * to; and no other thread writes there, or reads what may be written, before
+ * the call returns. Where a length is 0, nothing is read or written through its
+ * pointer, which may then be NULL. No other pointer may.
  *
  * What a call does with them: it writes only where a pointer is not const,
  * and only what its comment says. It keeps no pointer and no state, allocates
- * nothing, reads no clock and no file, and returns after at most a budget's
- * worth of steps. So it is reentrant, and calls on different bytes may run at
- * the same time, in any threads.
+ * nothing, reads no clock and no file, calls nothing of the host, and returns
+ * after at most a budget's worth of steps. So it is reentrant, and calls on
+ * different bytes may run at the same time, in any threads. It needs less than
+ * 1,024 bytes of stack, whatever the budget.
  *
- * Link with libtrnadulek.a.
+ * This header is C99 and C++11. Link with libtrnadulek.a, which is for x86-64
+ * Linux.
  */
 #ifndef TRNADULEK_H
 #define TRNADULEK_H
@@ -41,9 +49,15 @@
 #include <stddef.h>
 #include <stdint.h>
 
-#ifdef __cplusplus
-extern "C" {
-#endif
+/*
+ * The version of this header. trnadulek_version answers the library's, as
+ * 10,000 times the first number, 100 times the second, and the third.
+ */
+#define TRNADULEK_VERSION_MAJOR 0
+#define TRNADULEK_VERSION_MINOR 2
+#define TRNADULEK_VERSION_PATCH 0
+#define TRNADULEK_VERSION_NUMBER 200u
+#define TRNADULEK_VERSION_STRING "0.2.0"
 
 /* The sizes. trnadulek_size answers them too. */
 #define TRNADULEK_HEAD_SIZE 23u
@@ -55,6 +69,13 @@ extern "C" {
 /* The most cycles that a run can spend beyond its budget. */
 #define TRNADULEK_LARGEST_EXCESS 5u
 
+/* The most bytes that the words for a number have, without a closing zero. */
+#define TRNADULEK_LONGEST_WORDS 43u
+
+#ifdef __cplusplus
+extern "C" {
+#endif
+
 /* The numbers that calls answer. */
 enum trnadulek_code {
     TRNADULEK_DONE = 0,
@@ -64,43 +85,56 @@ enum trnadulek_code {
     TRNADULEK_UNDEFINED = 4,     /* the step would run an undefined opcode */
     TRNADULEK_BUDGET = 5,        /* budget above 1,048,576 */
     TRNADULEK_LENGTH = 6,        /* head, image or output slice of wrong length */
-    TRNADULEK_VERSION = 7,       /* version byte is not 1 */
+    TRNADULEK_SAVED_VERSION = 7, /* version byte is not 1 */
     TRNADULEK_BLOCK_LENGTH = 8,  /* a block length is not 14, or not 65,536 */
     TRNADULEK_STATE_CODE = 9     /* IME code above 2, or mode code above 3 */
 };
 
 /*
- * Takes one step of the state in a head.
+ * Takes one step.
  *
- * Refused, in this order, with 6, 7, 8, 9, 2 for the head, 1 for the memory, 3
- * for a Stopped mode, 4 for an undefined opcode.
+ * Refused, in this order, with 9 for the codes of IME and mode, 1 for the
+ * memory's length, 2 for F, 3 for a Stopped mode, 4 for an undefined opcode.
  *
- * 0: the head holds the next state, the memory what the step stored (at most
+ * 0: the block holds the next state, the memory what the step stored (at most
  * three bytes change) and *cycles what it cost, 1 to 6.
- * Refused: the head and the memory are unchanged, and *cycles is 0.
+ * Refused: the block and the memory are unchanged, and *cycles is 0.
  */
-uint8_t trnadulek_step(uint8_t *head, size_t head_len, uint8_t *memory, size_t memory_len, uint8_t *cycles);
+uint8_t trnadulek_step(uint8_t state[TRNADULEK_STATE_SIZE], uint8_t *memory, size_t memory_len, uint8_t *cycles);
 
 /*
- * Takes steps of the state in a head while the cycles spent are below the
- * budget.
+ * Takes steps while the cycles spent are below the budget.
  *
- * Refused, in this order, with 6, 7, 8, 9, 2 for the head, 1 for the memory, 5
- * for the budget; then by the first step that is refused, with 3 or 4.
+ * Refused, in this order, with 9 for the codes of IME and mode, 1 for the
+ * memory's length, 2 for F, 5 for the budget; then by the first step that is
+ * refused, with 3 or 4.
  *
  * 0: *spent is at least the budget and at most 5 more, *steps how many steps
- * were taken, and the head and the memory are as those steps left them. A
+ * were taken, and the block and the memory are as those steps left them. A
  * budget of 0 takes no step, also of a Stopped machine.
  * 3 or 4: the same for the steps before the refused one: they stay, and
  * *spent and *steps count them. *spent is below the budget.
- * Any other number: the head and the memory are unchanged, and *spent and
+ * Any other number: the block and the memory are unchanged, and *spent and
  * *steps are 0.
  *
  * A budget may be sliced: a run, and then a run of what is left of the budget,
  * leave what one run of the whole budget leaves. The memory is not copied.
  */
-uint8_t trnadulek_run(uint8_t *head, size_t head_len, uint8_t *memory, size_t memory_len, uint32_t budget, uint32_t *spent,
-                      uint32_t *steps);
+uint8_t trnadulek_run(uint8_t state[TRNADULEK_STATE_SIZE], uint8_t *memory, size_t memory_len, uint32_t budget,
+                      uint32_t *spent, uint32_t *steps);
+
+/*
+ * Runs an image where it lies. This is the call for a saved game: whatever it
+ * answers, the head and the memory of the image belong together afterwards.
+ *
+ * Refused, in this order, with 6, 7, 8, 9, 2 as trnadulek_open_image refuses,
+ * 5 for the budget; then by the first step that is refused, with 3 or 4.
+ *
+ * 0, 3 or 4: as trnadulek_run, and the image is the one that a save of the
+ * state and the memory after those steps would write.
+ * Any other number: the image is unchanged, and *spent and *steps are 0.
+ */
+uint8_t trnadulek_run_image(uint8_t *image, size_t image_len, uint32_t budget, uint32_t *spent, uint32_t *steps);
 
 /*
  * Loads a head: its state block.
@@ -123,8 +157,9 @@ uint8_t trnadulek_save_head(const uint8_t state[TRNADULEK_STATE_SIZE], uint8_t *
 
 /*
  * Opens an image: its state block. Its memory is the image's own bytes from
- * TRNADULEK_HEAD_SIZE to the end, and its head the bytes before them, so that
- * an image can be stepped and run where it lies.
+ * TRNADULEK_HEAD_SIZE to the end. To step that memory by itself leaves the
+ * head behind: save the state into it (trnadulek_save_head on the image's
+ * first TRNADULEK_HEAD_SIZE bytes), or call trnadulek_run_image instead.
  *
  * Refused, in this order, with 6, 7, 8, 9, 2. Then all of the state block is
  * zero.
@@ -156,23 +191,40 @@ uint8_t trnadulek_untaken_cycles(uint32_t row);
  */
 uint32_t trnadulek_size(uint32_t which);
 
+/* The library's version; this header's is TRNADULEK_VERSION_NUMBER. */
+uint32_t trnadulek_version(void);
+
 /*
  * The words for a number, in ASCII, with no zero byte after them.
  *
  * Answers how many bytes the words have, and 0 for a number that has none.
  * They are written to the front of out if out is long enough for all of them;
  * else nothing is written. Bytes of out beyond them are unchanged. No words
- * are longer than TRNADULEK_LONGEST_WORDS.
+ * are longer than TRNADULEK_LONGEST_WORDS. trnadulek_text, below, closes them
+ * with a zero.
  */
 size_t trnadulek_words(uint8_t code, uint8_t *out, size_t out_len);
-
-#define TRNADULEK_LONGEST_WORDS 43u
 
 #ifdef __cplusplus
 }
 #endif
 
-/* ---- The registers by name: no more than a way to write a state block. ---- */
+/* ---- Conveniences: they are code of this header, and no part of the library. ---- */
+
+/* The words for a number as a string, which is out; empty for a number that has none. */
+static inline const char *trnadulek_text(uint8_t code, char out[TRNADULEK_LONGEST_WORDS + 1])
+{
+    uint8_t words[TRNADULEK_LONGEST_WORDS];
+    size_t count = trnadulek_words(code, words, sizeof words);
+    size_t at;
+    for (at = 0; at < count; at++) {
+        out[at] = words[at] & 0x7F; /* they are ASCII; the mask needs no cast, in C or in C++ */
+    }
+    out[count] = 0;
+    return out;
+}
+
+/* The registers by name. */
 
 enum trnadulek_ime { TRNADULEK_IME_OFF = 0, TRNADULEK_IME_ARMING = 1, TRNADULEK_IME_ON = 2 };
 
@@ -200,10 +252,10 @@ static inline void trnadulek_state_of_cpu(const struct trnadulek_cpu *cpu, uint8
     state[5] = cpu->e;
     state[6] = cpu->h;
     state[7] = cpu->l;
-    state[8] = (uint8_t)(cpu->sp >> 8);
-    state[9] = (uint8_t)(cpu->sp & 0xFFu);
-    state[10] = (uint8_t)(cpu->pc >> 8);
-    state[11] = (uint8_t)(cpu->pc & 0xFFu);
+    state[8] = cpu->sp / 256u & 0xFFu;
+    state[9] = cpu->sp & 0xFFu;
+    state[10] = cpu->pc / 256u & 0xFFu;
+    state[11] = cpu->pc & 0xFFu;
     state[12] = cpu->ime;
     state[13] = cpu->mode;
 }
@@ -218,8 +270,8 @@ static inline void trnadulek_cpu_of_state(const uint8_t state[TRNADULEK_STATE_SI
     cpu->e = state[5];
     cpu->h = state[6];
     cpu->l = state[7];
-    cpu->sp = (uint16_t)((state[8] << 8) | state[9]);
-    cpu->pc = (uint16_t)((state[10] << 8) | state[11]);
+    cpu->sp = (state[8] * 256u + state[9]) & 0xFFFFu;
+    cpu->pc = (state[10] * 256u + state[11]) & 0xFFFFu;
     cpu->ime = state[12];
     cpu->mode = state[13];
 }

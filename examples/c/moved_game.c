@@ -4,7 +4,7 @@
  * An image comes from the flat unit. It is run for a frame where it lies, saved, opened on the
  * charged unit and run on. The game adds 1 to its score in each frame.
  */
-#include "../../include/trnadulek.h"
+#include <trnadulek.h>
 
 #include <stdio.h>
 #include <stdlib.h>
@@ -38,10 +38,18 @@ static uint8_t unit_two[TRNADULEK_IMAGE_SIZE];
 /* Ends the program with the words for a refusal. */
 static void demand(uint8_t code)
 {
-    uint8_t words[TRNADULEK_LONGEST_WORDS];
-    size_t count = trnadulek_words(code, words, sizeof words);
+    char words[TRNADULEK_LONGEST_WORDS + 1];
     if (code != TRNADULEK_DONE) {
-        printf("refused with %u: %.*s\n", code, (int)count, (const char *)words);
+        printf("refused with %u: %s\n", code, trnadulek_text(code, words));
+        exit(1);
+    }
+}
+
+/* Ends the program where the library is not the one that the header was made for. */
+static void demand_same_version(void)
+{
+    if (trnadulek_version() != TRNADULEK_VERSION_NUMBER || trnadulek_size(1) != TRNADULEK_STATE_SIZE) {
+        printf("the library is not of version %s\n", TRNADULEK_VERSION_STRING);
         exit(1);
     }
 }
@@ -67,13 +75,12 @@ static void show_score(const char *unit, const uint8_t *image)
     printf("%s: score %X%02X\n", unit, score[1], score[0]);
 }
 
-/* A frame: the game is told of it, and gets its cycles. The head and the memory of the image are changed in place. */
+/* A frame: the game is told of it, and gets its cycles. The image is run where it lies, and stays whole in any case. */
 static void run_frame(uint8_t *image)
 {
-    uint8_t *memory = image + TRNADULEK_HEAD_SIZE;
     uint32_t spent, steps;
-    memory[REQUESTS] |= NEW_FRAME;
-    demand(trnadulek_run(image, TRNADULEK_HEAD_SIZE, memory, TRNADULEK_MEMORY_SIZE, FRAME_CYCLES, &spent, &steps));
+    image[TRNADULEK_HEAD_SIZE + REQUESTS] |= NEW_FRAME;
+    demand(trnadulek_run_image(image, TRNADULEK_IMAGE_SIZE, FRAME_CYCLES, &spent, &steps));
     printf("  a frame: %lu cycles, %lu steps\n", (unsigned long)spent, (unsigned long)steps);
 }
 
@@ -81,6 +88,7 @@ int main(void)
 {
     uint8_t state[TRNADULEK_STATE_SIZE];
 
+    demand_same_version();
     make_image(unit_one);
     show_score("flat unit", unit_one);
     run_frame(unit_one);

@@ -11,7 +11,9 @@ int main(void)
     test_cases();
     test_steps();
     test_runs();
+    test_images();
     test_saved();
+    test_nulls();
     printf("%lu checks, %lu failed\n", checks_made(), checks_failed());
     return checks_failed() != 0;
 }

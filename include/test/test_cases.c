@@ -1,4 +1,4 @@
-/* The cases of document 01, "Cases to prove together", each as one step. */
+/* The twelve cases of docs/machine.md, each as one step. */
 #include "tests.h"
 
 #include "unit.h"
@@ -33,12 +33,11 @@ static void run_case(const struct one_case *c)
 {
     struct unit unit = unit_new();
     struct trnadulek_cpu got;
-    uint8_t cycles = 0xA5;
+    uint8_t cycles;
     unit_set(&unit, &c->before);
     unit_put(&unit, c->before.pc, c->code, 2);
     unit_remember(&unit);
-    check_number(c->name, TRNADULEK_DONE,
-                 trnadulek_step(unit.head.bytes, unit.head.count, unit.memory.bytes, unit.memory.count, &cycles));
+    check_number(c->name, TRNADULEK_DONE, unit_step(&unit, &cycles));
     check_number(c->name, c->cycles, cycles);
     got = unit_cpu(&unit);
     check_cpu(c->name, &c->after, &got);
@@ -54,12 +53,11 @@ static void case_10_pop_af(void)
     const struct trnadulek_cpu after = {.a = 0x12, .f = 0xF0, .sp = 0xD002, .pc = 0x101};
     struct unit unit = unit_new();
     struct trnadulek_cpu got;
-    uint8_t cycles = 0xA5;
+    uint8_t cycles;
     unit_set(&unit, &before);
     unit_put(&unit, before.pc, &pop_af, 1);
     unit_put(&unit, before.sp, stack, 2);
-    check_number("10, POP AF", TRNADULEK_DONE,
-                 trnadulek_step(unit.head.bytes, unit.head.count, unit.memory.bytes, unit.memory.count, &cycles));
+    check_number("10, POP AF", TRNADULEK_DONE, unit_step(&unit, &cycles));
     check_number("10, POP AF", 3, cycles);
     got = unit_cpu(&unit);
     check_cpu("10, POP AF", &after, &got);
@@ -74,13 +72,12 @@ static void case_12_dispatch(void)
     const struct trnadulek_cpu after = {.sp = 0xFFFC, .pc = 0x0050, .ime = TRNADULEK_IME_OFF};
     struct unit unit = unit_new();
     struct trnadulek_cpu got;
-    uint8_t cycles = 0xA5;
+    uint8_t cycles;
     unit_set(&unit, &before);
     unit_put(&unit, 0xFFFF, &enabled, 1);
     unit_put(&unit, 0xFF0F, &raised, 1);
     unit_remember(&unit);
-    check_number("12, dispatch", TRNADULEK_DONE,
-                 trnadulek_step(unit.head.bytes, unit.head.count, unit.memory.bytes, unit.memory.count, &cycles));
+    check_number("12, dispatch", TRNADULEK_DONE, unit_step(&unit, &cycles));
     check_number("12, dispatch", 5, cycles);
     got = unit_cpu(&unit);
     check_cpu("12, dispatch", &after, &got);

@@ -3,7 +3,20 @@
 #include "../trnadulek.h"
 #include "check.h"
 
+#include <stdio.h>
 #include <string.h>
+
+/* The header says its version in three ways, and the library says the same. */
+static void version(void)
+{
+    const unsigned number =
+        TRNADULEK_VERSION_MAJOR * 10000 + TRNADULEK_VERSION_MINOR * 100 + TRNADULEK_VERSION_PATCH;
+    char text[32];
+    snprintf(text, sizeof text, "%d.%d.%d", TRNADULEK_VERSION_MAJOR, TRNADULEK_VERSION_MINOR, TRNADULEK_VERSION_PATCH);
+    check_number("version", number, TRNADULEK_VERSION_NUMBER);
+    check_number("version", TRNADULEK_VERSION_NUMBER, trnadulek_version());
+    check_number("version as text", 0, strcmp(text, TRNADULEK_VERSION_STRING) != 0);
+}
 
 static void sizes(void)
 {
@@ -31,9 +44,21 @@ static void words_with_room(uint8_t code, const char *words, size_t room)
     guarded_release(words, &expected);
 }
 
+/* The words as a string, and nothing behind its closing zero. */
+static void text_of(uint8_t code, const char *words)
+{
+    char text[TRNADULEK_LONGEST_WORDS + 1];
+    size_t length = strlen(words);
+    memset(text, '.', sizeof text);
+    check_number("the text is what was lent", 1, trnadulek_text(code, text) == text);
+    check_number(words, 0, strcmp(words, text) != 0);
+    check_number(words, 1, length == TRNADULEK_LONGEST_WORDS || text[length + 1] == '.');
+}
+
 static void words_of(uint8_t code, const char *words)
 {
     size_t length = strlen(words);
+    text_of(code, words);
     check_number("length of the words", 1, length <= TRNADULEK_LONGEST_WORDS);
     words_with_room(code, words, 0);
     words_with_room(code, words, length - 1);
@@ -52,11 +77,12 @@ static void words(void)
     words_of(TRNADULEK_UNDEFINED, "the step would run an undefined opcode");
     words_of(TRNADULEK_BUDGET, "budget above 1,048,576");
     words_of(TRNADULEK_LENGTH, "head, image or output slice of wrong length");
-    words_of(TRNADULEK_VERSION, "version byte is not 1");
+    words_of(TRNADULEK_SAVED_VERSION, "version byte is not 1");
     words_of(TRNADULEK_BLOCK_LENGTH, "a block length is not 14, or not 65,536");
     words_of(TRNADULEK_STATE_CODE, "IME code above 2, or mode code above 3");
     for (code = TRNADULEK_STATE_CODE + 1; code <= UINT8_MAX; code++) {
         words_with_room((uint8_t)code, "", 50);
+        text_of((uint8_t)code, "");
     }
 }
 
@@ -117,6 +143,7 @@ static void table(void)
 
 void test_questions(void)
 {
+    version();
     sizes();
     words();
     table();

@@ -86,9 +86,9 @@ static void loads_in_order(loader *load, size_t length)
     load_refused("nothing", load, TRNADULEK_LENGTH, &bytes, 0);
     load_refused("a byte too short", load, TRNADULEK_LENGTH, &bytes, length - 1);
     load_refused("a byte too long", load, TRNADULEK_LENGTH, &bytes, length + 1);
-    load_refused("version 255", load, TRNADULEK_VERSION, &bytes, length);
+    load_refused("version 255", load, TRNADULEK_SAVED_VERSION, &bytes, length);
     head[0] = 2;
-    load_refused("version 2", load, TRNADULEK_VERSION, &bytes, length);
+    load_refused("version 2", load, TRNADULEK_SAVED_VERSION, &bytes, length);
     head[0] = 1;
     load_refused("both lengths wrong", load, TRNADULEK_BLOCK_LENGTH, &bytes, length);
     memcpy(head + 1, "\0\0\0\17", 4);

@@ -22,13 +22,19 @@ static void nothing(void) {}
 static void run(void)
 {
     uint32_t spent, steps;
-    trnadulek_run(head, sizeof head, memory, sizeof memory, TRNADULEK_LARGEST_BUDGET, &spent, &steps);
+    trnadulek_run(state, memory, sizeof memory, TRNADULEK_LARGEST_BUDGET, &spent, &steps);
+}
+
+static void run_image(void)
+{
+    uint32_t spent, steps;
+    trnadulek_run_image(image, sizeof image, TRNADULEK_LARGEST_BUDGET, &spent, &steps);
 }
 
 static void step(void)
 {
     uint8_t cycles;
-    trnadulek_step(head, sizeof head, memory, sizeof memory, &cycles);
+    trnadulek_step(state, memory, sizeof memory, &cycles);
 }
 
 static void save_and_open(void)
@@ -45,11 +51,12 @@ static void save_and_load(void)
 
 static void ask(void)
 {
-    uint8_t words[64];
-    trnadulek_words(5, words, sizeof words);
+    char text[TRNADULEK_LONGEST_WORDS + 1];
+    trnadulek_text(TRNADULEK_LENGTH, text);
     trnadulek_length(0xCB);
     trnadulek_untaken_cycles(0xCB);
     trnadulek_size(3);
+    trnadulek_version();
 }
 
 /* The bytes of the stack that a call has written over. */
@@ -74,15 +81,16 @@ static int within(const char *what, void (*call)(void), size_t entry)
 {
     size_t used = used_by(call) - entry;
     printf("stack: %s needs %lu bytes\n", what, (unsigned long)used);
-    return used <= MOST;
+    return used < MOST;
 }
 
 int main(void)
 {
     size_t entry = used_by(nothing);
     int good = 1;
-    save_and_load();
+    save_and_open();
     good &= within("a run of the largest budget", run, entry);
+    good &= within("the same of an image", run_image, entry);
     good &= within("a step", step, entry);
     good &= within("an image saved and opened", save_and_open, entry);
     good &= within("a head saved and loaded", save_and_load, entry);

@@ -1,0 +1,61 @@
+/* Where a length is 0 the pointer may be NULL: every call is answered as with any empty slice. */
+#include "tests.h"
+
+#include "unit.h"
+
+static void steps_and_runs(void)
+{
+    struct unit unit = unit_new();
+    struct ran ran = {0xA5, 0xA5A5A5A5, 0x5A5A5A5A};
+    uint8_t cycles = 0xA5;
+    check_number("step, no memory", TRNADULEK_MEMORY_LENGTH, trnadulek_step(unit.state.bytes, NULL, 0, &cycles));
+    check_number("step, no memory", 0, cycles);
+    ran.code = trnadulek_run(unit.state.bytes, NULL, 0, 1, &ran.spent, &ran.steps);
+    check_ran("run, no memory", ran, TRNADULEK_MEMORY_LENGTH, 0, 0);
+    ran.spent = 0xA5A5A5A5;
+    ran.steps = 0x5A5A5A5A;
+    ran.code = trnadulek_run_image(NULL, 0, 1, &ran.spent, &ran.steps);
+    check_ran("run, no image", ran, TRNADULEK_LENGTH, 0, 0);
+    unit_check_unchanged("nothing lent", &unit);
+    unit_release(&unit);
+}
+
+static void loads_and_saves(void)
+{
+    static const uint8_t zeros[TRNADULEK_STATE_SIZE];
+    struct unit unit = unit_new();
+    struct guarded image = guarded_bytes(TRNADULEK_IMAGE_SIZE, 0xA5);
+    struct guarded before = guarded_bytes(TRNADULEK_IMAGE_SIZE, 0xA5);
+    struct guarded state = guarded_bytes(TRNADULEK_STATE_SIZE, 0xA5);
+    check_number("load, no head", TRNADULEK_LENGTH, trnadulek_load_head(NULL, 0, state.bytes));
+    check_bytes("load, no head", zeros, state.bytes, state.count);
+    state.bytes[0] = 0xA5;
+    check_number("open, no image", TRNADULEK_LENGTH, trnadulek_open_image(NULL, 0, state.bytes));
+    check_bytes("open, no image", zeros, state.bytes, state.count);
+    check_number("save, no head", TRNADULEK_LENGTH, trnadulek_save_head(zeros, NULL, 0));
+    check_number("save, no image", TRNADULEK_LENGTH,
+                 trnadulek_save_image(zeros, unit.memory.bytes, unit.memory.count, NULL, 0));
+    check_number("save, no memory and no image", TRNADULEK_LENGTH, trnadulek_save_image(zeros, NULL, 0, NULL, 0));
+    check_number("save, no memory", TRNADULEK_MEMORY_LENGTH,
+                 trnadulek_save_image(zeros, NULL, 0, image.bytes, image.count));
+    check_bytes("save, no memory", before.bytes, image.bytes, image.count);
+    guarded_release("beside an image", &image);
+    guarded_release("beside an old image", &before);
+    guarded_release("beside a state", &state);
+    unit_release(&unit);
+}
+
+/* How long the words are can be asked with no room at all. */
+static void words(void)
+{
+    check_number("words, no room", 4, trnadulek_words(TRNADULEK_DONE, NULL, 0));
+    check_number("words, no room", TRNADULEK_LONGEST_WORDS, trnadulek_words(TRNADULEK_LENGTH, NULL, 0));
+    check_number("no words, no room", 0, trnadulek_words(200, NULL, 0));
+}
+
+void test_nulls(void)
+{
+    steps_and_runs();
+    loads_and_saves();
+    words();
+}
