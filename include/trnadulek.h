@@ -103,7 +103,7 @@ enum trnadulek_code {
 uint8_t trnadulek_step(uint8_t state[TRNADULEK_STATE_SIZE], uint8_t *memory, size_t memory_len, uint8_t *cycles);
 
 /*
- * Takes steps while the cycles spent are below the budget.
+ * Takes steps until the budget of cycles is met.
  *
  * Refused, in this order, with 9 for the codes of IME and mode, 1 for the
  * memory's length, 2 for F, 5 for the budget; then by the first step that is
@@ -176,10 +176,12 @@ uint8_t trnadulek_save_image(const uint8_t state[TRNADULEK_STATE_SIZE], const ui
                              uint8_t *image, size_t image_len);
 
 /*
- * The opcode table: rows 0 to 255 for a first byte, 256 to 511 for the byte
- * after $CB. The length counts all bytes of the instruction, the prefix too;
- * a taken JR cc or JP cc costs 1 cycle more than the untaken one, CALL cc and
- * RET cc 3 more. Undefined rows, row $CB and any row above 511 have 0 and 0.
+ * The opcode table: a row below 256 is that opcode, and a row from there to
+ * 511 is $CB and the opcode that is 256 less. The length counts all bytes of
+ * the instruction, $CB too. The cycles are those of a branch that is not
+ * taken: where its condition is met, a jump takes 1 more, a call or a return 3
+ * more. A row without an instruction (an undefined opcode, row $CB, any number
+ * above 511) has 0 and 0.
  */
 uint8_t trnadulek_length(uint32_t row);
 uint8_t trnadulek_untaken_cycles(uint32_t row);
