@@ -1,13 +1,16 @@
-// Document 01's program: a budget, a head and a memory from standard input, two lines to standard output.
+// Document 01's program: a budget, a head and a memory from standard input, two lines to standard output. Where the input cannot be
+// read or the output not be written, a line on standard error says so.
+use libc::STDERR_FILENO;
 use libc::STDIN_FILENO;
 use libc::STDOUT_FILENO;
 use text::answer;
 
-// The first len of the bytes, to standard output.
-fn print(bytes: &[u8], len: usize) {
+// The first len of the bytes, to standard output; false where they cannot be written.
+fn print(bytes: &[u8], len: usize) -> bool {
     if len <= bytes.len() {
-        io::write_all(STDOUT_FILENO, &bytes[..len]);
+        return io::write_all(STDOUT_FILENO, &bytes[..len]);
     }
+    false
 }
 
 fn main() {
@@ -17,8 +20,15 @@ fn main() {
     let mut past = [0u8; 1];
     let first = io::read_full(STDIN_FILENO, &mut lead);
     let second = io::read_full(STDIN_FILENO, &mut memory);
-    let third = io::read_full(STDIN_FILENO, &mut past);
+    // At the end of the input this answers 0, and where it cannot be read a negative number.
+    let ended = libc::read(STDIN_FILENO, &mut past);
+    if ended < 0 {
+        io::write_all(STDERR_FILENO, b"program: the input cannot be read\n");
+    }
+    let third = io::count(ended, &past);
     let text = answer::answer(first + second + third, &lead, &mut memory);
     let bytes = text.bytes;
-    print(&bytes, text.len);
+    if !print(&bytes, text.len) {
+        io::write_all(STDERR_FILENO, b"program: the output cannot be written\n");
+    }
 }
