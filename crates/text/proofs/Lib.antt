@@ -2,4 +2,5 @@
 pub mod Texts
 pub mod Ends
 pub mod Decimal
+pub mod Fits
 pub mod Unique

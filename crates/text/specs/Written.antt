@@ -1,4 +1,5 @@
--- A text that grows: bytes written one after the other into room for 128.
+-- A text that grows: bytes written one after the other into room for 160, which is more than the program's two lines have
+-- (the law `two-lines`).
 -- Assumes nothing.
 use Prim.Native.Nat.{ℕ, _+_}
 use mathlib.Core.Bool.{Bool, true, false}
@@ -7,8 +8,11 @@ use lib.Dec.{ltb}
 use lib.ListN.{set, replicate}
 use Rattle.text.specs.declared.Text.{Text}
 
+abbrev pub room : ℕ
+room = 160
+
 unfoldable pub blank : Text
-blank = record { bytes = replicate 128 0; len = 0 }
+blank = record { bytes = replicate room 0; len = 0 }
 
 -- one byte more; a full text stays as it is
 unfoldable pub pushedIf : Bool → ℕ → Text → Text
@@ -16,7 +20,7 @@ pushedIf true b t = record { bytes = set (t .bytes) (t .len) b; len = t .len + 1
 pushedIf false b t = t
 
 unfoldable pub pushed : ℕ → Text → Text
-pushed b t = pushedIf (ltb (t .len) 128) b t
+pushed b t = pushedIf (ltb (t .len) room) b t
 
 -- a list of bytes more
 unfoldable pub written : List ℕ → Text → Text

@@ -19,7 +19,7 @@ impl Text {
         ensures { λ r. ⌜ r ≡ blank ⌝ }
     {
         Text {
-            bytes: [0u8; 128],
+            bytes: [0u8; 160],
             len: 0,
         }
     }
@@ -29,7 +29,7 @@ impl Text {
         ensures { λ r. ⌜ r ≡ pushed b self ⌝ }
     {
         let at = self.len;
-        if at < 128 {
+        if at < 160 {
             self.bytes[at] = b;
             self.len = at + 1;
             return self;

@@ -4,6 +4,6 @@ mod digits;
 
 // A text that grows: its bytes, and how many there are.
 pub struct Text {
-    pub bytes: [u8; 128],
+    pub bytes: [u8; 160],
     pub len: usize,
 }

@@ -7,11 +7,11 @@ use Rattle.text.proofs.Text.push.Tie as tie
 
 returns : tie.Need-returns
 unfolding pushedIf pushed
-returns c = rw (lt-ltb _ 128 (c .if1 .taken))
+returns c = rw (lt-ltb _ 160 (c .if1 .taken))
 
 returns-2 : tie.Need-returns-2
 unfolding pushedIf pushed
-returns-2 c = rw (le-ltb _ 128 (c .if1 .left))
+returns-2 c = rw (le-ltb _ 160 (c .if1 .left))
 
 pub push-spec : {M : Type 1} → statement M
 push-spec = tie.close (tie.spec (search needs) (search needs) returns returns-2)
