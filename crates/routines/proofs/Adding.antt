@@ -63,7 +63,7 @@ module _ {r : ℕ} {s : Cpu} {m : List ℕ} {dst src : ℕ} (g : Given addingRou
   looped : Looped r
       (running (aluOf And (s .a) (s .a) (s .f) .value) f₀ (s .b) (s .c) (s .d) (s .e) (s .h) (s .l) (s .sp) (s .pc + 1)) m dst
       src (cOf f₀) (s .c) (s .sp) (s .pc + 9)
-  looped = loop r (g .routine-fits) f₀-low (g .de) (g .hl) (standing g) (g .n-most) (g .b)
+  looped = loop r (g .routine-fits) f₀-low (g .de) (g .hl) (standing g) (omega arith) (g .b)
 
   -- what the routine and the stack bytes are, they are when the loop has ended
   kept-code : byteAt (looped .mem) (s .pc + 9) ≡ 0xC9

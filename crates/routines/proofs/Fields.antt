@@ -71,8 +71,8 @@ module _ {routine : List ℕ} {n : ℕ} {s : Cpu} {m : List ℕ} {dst src : ℕ}
       record {
         size = g .memory;
         code = g .pc;
-        dst-fits = g .dst-fits;
-        src-fits = g .src-fits;
+        dst-fits = omega arith;
+        src-fits = omega arith;
         clear = g .dst-clear;
         ahead = not-before (g .fields);
         dst-digits = g .dst-digits;

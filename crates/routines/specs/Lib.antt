@@ -4,3 +4,4 @@ pub mod Steps
 pub mod Premises
 pub mod Adding
 pub mod Example
+pub mod Edges
