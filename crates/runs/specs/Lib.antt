@@ -1,0 +1,3 @@
+-- What is promised of whole runs.
+pub mod Stepwise
+pub mod Outcome
