@@ -2,4 +2,5 @@
 pub mod Width
 pub mod Laws
 pub mod Carries
+pub mod Bits
 pub mod Unique
