@@ -3,4 +3,5 @@ pub mod Width
 pub mod Laws
 pub mod Carries
 pub mod Bits
+pub mod Refusals
 pub mod Unique

@@ -1,4 +1,4 @@
--- The numbers of the machine: what its bytes, words and flags are and how they are reckoned with.
+-- The numbers of the machine: what its bytes, words and flags are and how they are reckoned with; and the order of refusals.
 -- Read in this order.
 pub mod Width
 pub mod Flags
@@ -6,3 +6,4 @@ pub mod Bytes
 pub mod Rotates
 pub mod Decimal
 pub mod Words
+pub mod Refusals

@@ -6,11 +6,13 @@ use Rattle.arith.specs.Bytes.{addedOf, subtractedOf, logicOf, comparedOf, aluOf
 use Rattle.arith.specs.Rotates.{rotatedOf, leftOverOf, rotationOf, rotationAOf}
 use Rattle.arith.specs.Decimal.{adjustmentOf, adjustedOf, afterSubtractionOf, lowWrongOf, highWrongOf, afterAdditionOf, byLast, decimalOf}
 use Rattle.arith.specs.Words.{wordOf, highOf, lowOf, further, back, offsetBy, offsetOf, addedHlOf, addedSpOf}
+use Rattle.arith.specs.Refusals.{order}
 use Rattle.insn.specs.Grid.{grid}
 use Rattle.insn.specs.Shapes.{shapes}
-use Rattle.machine.specs.Memory.{byteAt, stored, pendingOf}
+use Rattle.machine.specs.Memory.{byteAt, stored}
+use Rattle.machine.specs.Modes.{isOn}
+use Rattle.machine.specs.Interrupts.{pendingOf, lowestSet, lowestOf, dispatchDueOf, vectoredOf, dispatchOf}
 use Rattle.machine.specs.Execute.{acts}
-use Rattle.machine.specs.Interrupts.{lowestSet, lowestOf, isOn, dispatchDueOf, vectoredOf, dispatchOf}
 use Rattle.machine.specs.Step.{flow}
 
 unfoldable pub numbers : Unit {0}
@@ -18,5 +20,5 @@ unfolding sumOf differenceOf carryOf borrowOf weightIf flagsOf zOf nOf hOf cOf a
 numbers = tt
 
 unfoldable pub whole : Unit {0}
-unfolding numbers grid shapes byteAt stored pendingOf acts lowestSet lowestOf isOn dispatchDueOf vectoredOf dispatchOf flow
+unfolding numbers order grid shapes byteAt stored isOn pendingOf lowestSet lowestOf dispatchDueOf vectoredOf dispatchOf acts flow
 whole = tt

@@ -9,7 +9,7 @@ use native.Mathlib.Omega.{arith}
 use lib.Dec.{eqb}
 use borrow.Author.Tests.{eqb-true, le-ltb}
 use Rattle.insn.specs.Grid.{grid, operandOf, decodeOf, prefixedOf}
-use Rattle.insn.specs.Shapes.{Shape, shapes, accessOf, carriedOf, shapeOf}
+use Rattle.insn.specs.Shapes.{Shape, shapes, accessOf, carriedOf, shapeOf, isUndefined}
 use Rattle.insn.specs.Table.{rows, rowOf, lengthOf, untakenOf}
 use Rattle.insn.specs.declared.Cond.{Cond}
 use Rattle.insn.specs.declared.Operand.{Operand}
@@ -128,9 +128,6 @@ undefinedBytes = 0xD3 ∷ 0xDB ∷ 0xDD ∷ 0xE3 ∷ 0xE4 ∷ 0xEB ∷ 0xEC ∷ 
 abbrev pub among : List ℕ → ℕ → Bool
 among [] k = false
 among (x ∷ xs) k = eqb k x || among xs k
-
-abbrev pub isUndefined : Insn → Bool
-isUndefined i = eqb (shapeOf i .cycles) 0
 
 pub prefixed-defined : (n : ℕ) → n < 256 → isUndefined (prefixedOf n) ≡ false
 unfolding grid shapes

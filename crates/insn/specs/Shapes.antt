@@ -3,6 +3,8 @@
 -- undefined byte, which has none.
 -- Assumes nothing.
 use Prim.Native.Nat.{ℕ, _+_, _*_}
+use mathlib.Core.Bool.{Bool}
+use lib.Dec.{eqb}
 use Rattle.insn.specs.Grid.{operandOf, decodeOf}
 use Rattle.insn.specs.declared.Operand.{Operand}
 use Rattle.insn.specs.declared.Operand.the-variants.{Reg, AtHl, Const}
@@ -79,6 +81,10 @@ shapeOf (Push rp) = takes 0 4
 shapeOf (Call w) = takes 2 6
 shapeOf (Rst v) = takes 0 4
 shapeOf Undefined = takes 0 0
+
+-- an undefined byte is no instruction, which is to have no cycles
+abbrev pub isUndefined : Insn → Bool
+isUndefined i = eqb (shapeOf i .cycles) 0
 
 -- an instruction with what it takes, as the decoder answers it
 unfoldable pub shapedOf : Insn → Decoded

@@ -8,18 +8,19 @@ use mathlib.Core.Logic.{_≢_}
 use mathlib.Core.Path.{_≡_, refl, _∙_, ap}
 use Rattle.insn.specs.declared.Insn.{Insn}
 use Rattle.insn.specs.declared.Insn.the-variants.{Nop, StoreSp, Stop, Jr, JrIf, LoadPair, AddHl, StoreAt, LoadAt, IncPair, DecPair, Inc, Dec, Load, RotateA, Daa, Cpl, Scf, Ccf, Halt, Math, RetIf, StoreHigh, AddSp, LoadHigh, LoadHlSp, Pop, Ret, Reti, JumpHl, LoadSpHl, JumpIf, StoreHighC, StoreTo, LoadHighC, LoadFrom, Jump, Rotate, Bit, Res, Set, Di, Ei, CallIf, Push, Call, Rst, Undefined}
-use Rattle.machine.specs.Answers.{With}
+use Rattle.machine.specs.Answers.{Storing, storing}
 use Rattle.machine.specs.State.{withSp, withIme, hlOf, setHl}
 use Rattle.machine.specs.Stack.{pushedOf, returnedTo, calledOf}
-use Rattle.machine.specs.Execute.{armedOf, isOff, execOf, resultOf, addedToHlOf, addedToSpOf, hlFromSpOf, storedAtOf, loadedFrom, complementedOf, withCarryOf, haltedOf}
-use Rattle.machine.specs.Memory.{pendingOf}
-use Rattle.machine.specs.Interrupts.{isOn, dispatchDueOf}
-use Rattle.machine.specs.Step.{settledIme, readyOf, endOf, finishedOf, stepOf}
+use Rattle.machine.specs.Execute.{execOf, resultOf, addedToHlOf, addedToSpOf, hlFromSpOf, storedTo, storedAtOf, loadedFrom, complementedOf, withCarryOf, haltedOf}
+use Rattle.machine.specs.Memory.{wordStores}
+use Rattle.machine.specs.Modes.{isOff, isOn, armedOf, settledIme}
+use Rattle.machine.specs.Interrupts.{pendingOf, dispatchDueOf}
+use Rattle.machine.specs.Step.{dispatches, idles, nextInsn, nextAfter, readyOf, endOf, insnAct, stepOf}
 use Rattle.machine.specs.declared.Ime.{Ime}
 use Rattle.machine.specs.declared.Ime.the-variants.{Off, Arming, On}
 use Rattle.machine.specs.declared.Cpu.{Cpu}
 use Rattle.machine.specs.declared.Done.{Done}
-use Rattle.machine.proofs.Rules.{dispatches, idles, nextInsn, nextAfter, insnRun, step-insn}
+use Rattle.machine.proofs.Rules.{step-insn}
 use Rattle.machine.proofs.Fields.{imed, value-read, held-read, pair-read, stacked-read, pointed-read, placed-left, updated-left, pair-left, stacked-left, moved-left, jumped-left, called-left, returned-left}
 
 -- what the instruction i has to do with IME: three set it; every other leaves it, and does the same from an IME u, where HALT asks
@@ -29,11 +30,11 @@ pub data Uses (i : Insn) (s : Cpu) (m : List ℕ) : Type 0 where
   is-ei : i ≡ Ei → Uses i s m
   is-reti : i ≡ Reti → Uses i s m
   leaves : ((u : Ime) → isOff u ≡ isOff (s .ime)
-      → execOf i (withIme u s) m ≡ record { out = imed u (execOf i s m .out); mem = execOf i s m .mem })
+      → execOf i (withIme u s) m ≡ storing (imed u (execOf i s m .out)) (execOf i s m .stores))
       → Uses i s m
 
 pub exec-uses : (i : Insn) (s : Cpu) (m : List ℕ) → Uses i s m
-unfolding execOf resultOf addedToHlOf addedToSpOf hlFromSpOf hlOf setHl storedAtOf loadedFrom complementedOf withCarryOf haltedOf returnedTo calledOf pushedOf
+unfolding execOf resultOf addedToHlOf addedToSpOf hlFromSpOf hlOf setHl wordStores storedTo storedAtOf loadedFrom complementedOf withCarryOf haltedOf returnedTo calledOf pushedOf
 exec-uses Nop s m = leaves (λ _ _. refl)
 exec-uses (StoreSp w) s m = leaves (λ _ _. refl)
 exec-uses Stop s m = leaves (λ _ _. refl)
@@ -95,7 +96,7 @@ unfolding execOf
 uses-switched (is-di e) = rw e di
 uses-switched (is-ei e) = rw e ei
 uses-switched (is-reti e) = rw e reti
-uses-switched {s = s} (leaves e) = rw (ap (λ (w : With Done). w .out .cpu .ime) (e (s .ime) refl)) kept
+uses-switched {s = s} (leaves e) = rw (ap (λ (w : Storing Done). w .out .cpu .ime) (e (s .ime) refl)) kept
 
 pub exec-switched : (i : Insn) (s : Cpu) (m : List ℕ) → Switched (s .ime) i (execOf i s m .out .cpu .ime)
 exec-switched i s m = uses-switched (exec-uses i s m)
@@ -103,22 +104,22 @@ exec-switched i s m = uses-switched (exec-uses i s m)
 -- to settle IME before the instruction, and nothing at its end, comes to the same
 
 uses-settled : (k : ℕ) (s : Cpu) {i : Insn} {m : List ℕ} → Uses i (withIme Arming s) m
-    → finishedOf k Arming (execOf i (withIme Arming s) m) ≡ finishedOf k Off (execOf i (withIme On s) m)
-unfolding execOf returnedTo settledIme endOf finishedOf armedOf isOff
+    → endOf k Arming (execOf i (withIme Arming s) m) ≡ endOf k Off (execOf i (withIme On s) m)
+unfolding execOf returnedTo settledIme endOf armedOf isOff
 uses-settled k s (is-di e) = rw e
 uses-settled k s (is-ei e) = rw e
 uses-settled k s (is-reti e) = rw e
-uses-settled k s (leaves e) = rw (e On refl, ap (λ (w : With Done). w .out .cpu .ime) (e Arming refl))
+uses-settled k s (leaves e) = rw (e On refl, ap (λ (w : Storing Done). w .out .cpu .ime) (e Arming refl))
 
 settled-from : (t : Ime) (k : ℕ) (i : Insn) (s : Cpu) (m : List ℕ)
-    → finishedOf k t (execOf i (withIme t s) m) ≡ finishedOf k Off (execOf i (withIme (settledIme t t) s) m)
-unfolding settledIme endOf finishedOf
+    → endOf k t (execOf i (withIme t s) m) ≡ endOf k Off (execOf i (withIme (settledIme t t) s) m)
+unfolding settledIme endOf
 settled-from Off k i s m = refl
 settled-from Arming k i s m = uses-settled k s (exec-uses i (withIme Arming s) m)
 settled-from On k i s m = refl
 
 pub settled-first : (k : ℕ) (i : Insn) (s : Cpu) (m : List ℕ)
-    → finishedOf k (s .ime) (execOf i s m) ≡ finishedOf k Off (execOf i (withIme (settledIme (s .ime) (s .ime)) s) m)
+    → endOf k (s .ime) (execOf i s m) ≡ endOf k Off (execOf i (withIme (settledIme (s .ime) (s .ime)) s) m)
 settled-first k i s m = settled-from (s .ime) k i s m
 
 -- every instruction but those three leaves it
@@ -183,33 +184,33 @@ module _ (s : Cpu) (m : List ℕ) where
   unfolding readyOf
   switched = exec-switched (nextInsn s m) (readyOf (nextAfter s m) s) m
 
-  insn-ime : insnRun s m .out .cpu .ime ≡ settledIme (s .ime) ended
-  unfolding insnRun finishedOf endOf
+  insn-ime : insnAct s m .cpu .ime ≡ settledIme (s .ime) ended
+  unfolding insnAct endOf
   insn-ime = refl
 
   -- from a start t it ends with u
   abbrev Ends : Ime → Ime → Type 0
   Ends t u = Switched t (nextInsn s m) ended → settledIme t ended ≡ u
 
-  pub arming-on : s .ime ≡ Arming → nextInsn s m ≢ Di → insnRun s m .out .cpu .ime ≡ On
+  pub arming-on : s .ime ≡ Arming → nextInsn s m ≢ Di → insnAct s m .cpu .ime ≡ On
   arming-on e d = insn-ime ∙ being (λ t. Ends t On) e (λ h. from-arming h d) switched
 
-  pub on-stays : s .ime ≡ On → nextInsn s m ≢ Di → insnRun s m .out .cpu .ime ≡ On
+  pub on-stays : s .ime ≡ On → nextInsn s m ≢ Di → insnAct s m .cpu .ime ≡ On
   on-stays e d = insn-ime ∙ being (λ t. Ends t On) e (λ h. from-on h d) switched
 
-  pub off-stays : s .ime ≡ Off → nextInsn s m ≢ Ei → nextInsn s m ≢ Reti → insnRun s m .out .cpu .ime ≡ Off
+  pub off-stays : s .ime ≡ Off → nextInsn s m ≢ Ei → nextInsn s m ≢ Reti → insnAct s m .cpu .ime ≡ Off
   off-stays e i r = insn-ime ∙ being (λ t. Ends t Off) e (λ h. from-off h i r) switched
 
   -- DI: Off; RETI: On at once; EI: Off becomes Arming
-  pub di-off : nextInsn s m ≡ Di → insnRun s m .out .cpu .ime ≡ Off
+  pub di-off : nextInsn s m ≡ Di → insnAct s m .cpu .ime ≡ Off
   unfolding execOf
   di-off e = insn-ime ∙ being (λ i. settledIme (s .ime) (doneIme i) ≡ Off) e (to-off (s .ime))
 
-  pub reti-on : nextInsn s m ≡ Reti → insnRun s m .out .cpu .ime ≡ On
+  pub reti-on : nextInsn s m ≡ Reti → insnAct s m .cpu .ime ≡ On
   unfolding execOf
   reti-on e = insn-ime ∙ being (λ i. settledIme (s .ime) (doneIme i) ≡ On) e (to-on (s .ime))
 
-  pub ei-arming : nextInsn s m ≡ Ei → s .ime ≡ Off → insnRun s m .out .cpu .ime ≡ Arming
+  pub ei-arming : nextInsn s m ≡ Ei → s .ime ≡ Off → insnAct s m .cpu .ime ≡ Arming
   unfolding execOf readyOf settledIme armedOf
   ei-arming e o =
       insn-ime
@@ -217,7 +218,7 @@ module _ (s : Cpu) (m : List ℕ) where
 
   -- the document's sentence, of a step that is accepted and runs an instruction
   arming-dispatch : s .ime ≡ Arming → dispatches s m ≡ false
-  unfolding dispatchDueOf isOn
+  unfolding dispatches dispatchDueOf isOn
   arming-dispatch e = being (λ t. dispatchDueOf t (pendingOf m) ≡ false) e refl
 
   pub step-arming : s .ime ≡ Arming → idles s m ≡ false → stepOf s m .out .code ≡ 0 → nextInsn s m ≢ Di

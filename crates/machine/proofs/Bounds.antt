@@ -29,19 +29,18 @@ use Rattle.insn.specs.declared.Insn.{Insn}
 use Rattle.insn.specs.declared.Insn.the-variants.{Nop, StoreSp, Stop, Jr, JrIf, LoadPair, AddHl, StoreAt, LoadAt, IncPair, DecPair, Inc, Dec, Load, RotateA, Daa, Cpl, Scf, Ccf, Halt, Math, RetIf, StoreHigh, AddSp, LoadHigh, LoadHlSp, Pop, Ret, Reti, JumpHl, LoadSpHl, JumpIf, StoreHighC, StoreTo, LoadHighC, LoadFrom, Jump, Rotate, Bit, Res, Set, Di, Ei, CallIf, Push, Call, Rst, Undefined}
 use Rattle.insn.proofs.Sound.{SoundOperand, Sound as SoundInsn, place-sound, decode-sound}
 use Rattle.machine.specs.State.{withF, regOf, withReg, hlOf, setHl, withPair, withStacked}
-use Rattle.machine.specs.Answers.{With, keeping}
-use Rattle.machine.specs.Memory.{byteAt, stored, wordAt, pendingOf}
+use Rattle.machine.specs.Answers.{With}
+use Rattle.machine.specs.Memory.{byteAt, wordAt, Store, store, wordStores, stored, made}
 use Rattle.machine.specs.Stack.{pushedOf, returnedTo, calledOf}
 use Rattle.machine.specs.Operands.{valueOf, heldOf, placedOf, updatedOf, movedOf}
-use Rattle.machine.specs.Execute.{execOf, resultOf, addedToHlOf, addedToSpOf, hlFromSpOf, jumpedIf, calledIf, returnedIf, storedAtOf, loadedFrom, complementedOf, withCarryOf, haltedOf}
-use Rattle.machine.specs.Interrupts.{lowestSet, lowestOf, vectoredOf, dispatchOf}
-use Rattle.machine.specs.Step.{accepting, insnAt, readyOf, endOf, finishedOf, stepOf}
+use Rattle.machine.specs.Execute.{execOf, resultOf, addedToHlOf, addedToSpOf, hlFromSpOf, jumpedIf, calledIf, returnedIf, storedTo, storedAtOf, loadedFrom, complementedOf, withCarryOf, haltedOf}
+use Rattle.machine.specs.Interrupts.{pendingOf, lowestSet, lowestOf, vectoredOf, dispatchOf}
+use Rattle.machine.specs.Step.{act, accepting, nextRest, nextInsn, nextAfter, readyOf, endOf, insnAct, ruleOf, stepRefusals, stepOf}
 use Rattle.machine.specs.declared.Cpu.{Cpu}
 use Rattle.machine.specs.declared.Stepped.{Stepped}
 use Rattle.machine.proofs.Sound.{Sound, Bytes}
 use Rattle.machine.proofs.ReadOverWrite.{stored-same, stored-other, stored-out}
-use Rattle.machine.proofs.Stores.{Store, made, pushStores, callStores, placeStores, execStores, exec-made}
-use Rattle.machine.proofs.Rules.{ruled, nextRest, nextInsn, nextAfter, insnRun, by-rules, by-refusals}
+use Rattle.machine.proofs.Rules.{by-outcome, by-rules}
 
 -- what is read
 
@@ -113,20 +112,20 @@ moved-sound pointer.De s h = h
 moved-sound pointer.Hli s h = hl-sound _ s h
 moved-sound pointer.Hld s h = hl-sound _ s h
 
-placed-sound : (q : Place) (v : ℕ) (s : Cpu) (m : List ℕ) → v < 256 → Sound s → Sound (placedOf q v s m .out)
+placed-sound : (q : Place) (v : ℕ) (s : Cpu) → v < 256 → Sound s → Sound (placedOf q v s .out)
 unfolding placedOf
-placed-sound place.B v s m p h = reg-sound reg.B v s p h
-placed-sound place.C v s m p h = reg-sound reg.C v s p h
-placed-sound place.D v s m p h = reg-sound reg.D v s p h
-placed-sound place.E v s m p h = reg-sound reg.E v s p h
-placed-sound place.H v s m p h = reg-sound reg.H v s p h
-placed-sound place.L v s m p h = reg-sound reg.L v s p h
-placed-sound place.AtHl v s m p h = h
-placed-sound place.A v s m p h = reg-sound reg.A v s p h
+placed-sound place.B v s p h = reg-sound reg.B v s p h
+placed-sound place.C v s p h = reg-sound reg.C v s p h
+placed-sound place.D v s p h = reg-sound reg.D v s p h
+placed-sound place.E v s p h = reg-sound reg.E v s p h
+placed-sound place.H v s p h = reg-sound reg.H v s p h
+placed-sound place.L v s p h = reg-sound reg.L v s p h
+placed-sound place.AtHl v s p h = h
+placed-sound place.A v s p h = reg-sound reg.A v s p h
 
-updated-sound : (q : Place) (r : Byte) (s : Cpu) (m : List ℕ) → ByteFits r → Sound s → Sound (updatedOf q r s m .out)
+updated-sound : (q : Place) (r : Byte) (s : Cpu) → ByteFits r → Sound s → Sound (updatedOf q r s .out)
 unfolding updatedOf
-updated-sound q r s m f h = placed-sound q (r .value) _ m (f .value-below) (omega (arith, f .flags-below))
+updated-sound q r s f h = placed-sound q (r .value) _ (f .value-below) (omega (arith, f .flags-below))
 
 result-sound : (r : Byte) (s : Cpu) → ByteFits r → Sound s → Sound (resultOf r s)
 unfolding resultOf
@@ -141,10 +140,10 @@ unfolding jumpedIf
 jumped-sound true to s p h = omega arith
 jumped-sound false to s p h = h
 
-called-sound : (t : Bool) (to : ℕ) (s : Cpu) (m : List ℕ) → to < 65536 → Sound s → Sound (calledIf t to s m .out .cpu)
+called-sound : (t : Bool) (to : ℕ) (s : Cpu) → to < 65536 → Sound s → Sound (calledIf t to s .out .cpu)
 unfolding calledIf calledOf pushedOf
-called-sound true to s m p h = omega (arith, back-below 2 (s .sp))
-called-sound false to s m p h = h
+called-sound true to s p h = omega (arith, back-below 2 (s .sp))
+called-sound false to s p h = h
 
 returned-sound : (t : Bool) (to : ℕ) (s : Cpu) → to < 65536 → Sound s → Sound (returnedIf t to s .cpu)
 unfolding returnedIf returnedTo
@@ -152,7 +151,7 @@ returned-sound true to s p h = omega (arith, further-below 2 (s .sp))
 returned-sound false to s p h = h
 
 pub exec-sound : (i : Insn) (s : Cpu) (m : List ℕ) → SoundInsn i → Sound s → Bytes m → Sound (execOf i s m .out .cpu)
-unfolding execOf addedToHlOf addedToSpOf hlFromSpOf storedAtOf complementedOf withCarryOf haltedOf returnedTo calledOf pushedOf
+unfolding execOf addedToHlOf addedToSpOf hlFromSpOf storedTo storedAtOf complementedOf withCarryOf haltedOf returnedTo calledOf pushedOf
 exec-sound Nop s m i h b = h
 exec-sound (StoreSp w) s m i h b = h
 exec-sound Stop s m i h b = omega arith
@@ -164,9 +163,9 @@ exec-sound (StoreAt p) s m i h b = moved-sound p s h
 exec-sound (LoadAt p) s m i h b = moved-sound p _ (loaded-sound _ s m h b)
 exec-sound (IncPair rp) s m i h b = pair-sound rp _ s (further-below 1 _) h
 exec-sound (DecPair rp) s m i h b = pair-sound rp _ s (back-below 1 _) h
-exec-sound (Inc q) s m i h b = updated-sound q _ s m (increased-fits _ _) h
-exec-sound (Dec q) s m i h b = updated-sound q _ s m (decreased-fits _ _) h
-exec-sound (Load q o) s m i h b = placed-sound q _ s m (value-below o s m i h b) h
+exec-sound (Inc q) s m i h b = updated-sound q _ s (increased-fits _ _) h
+exec-sound (Dec q) s m i h b = updated-sound q _ s (decreased-fits _ _) h
+exec-sound (Load q o) s m i h b = placed-sound q _ s (value-below o s m i h b) h
 exec-sound (RotateA r) s m i h b = result-sound _ s (rotation-a-fits r (s .a) _ (h .a)) h
 exec-sound Daa s m i h b = result-sound _ s (decimal-fits (s .a) (s .f)) h
 exec-sound Cpl s m i h b = omega (arith, flags-below (zOf (s .f)) true true (cOf (s .f)))
@@ -190,13 +189,13 @@ exec-sound (StoreTo w) s m i h b = h
 exec-sound LoadHighC s m i h b = loaded-sound _ s m h b
 exec-sound (LoadFrom w) s m i h b = loaded-sound _ s m h b
 exec-sound (Jump w) s m i h b = omega (arith, i)
-exec-sound (Rotate r q) s m i h b = updated-sound q _ s m (rotation-fits r _ _ (held-below q s m h b)) h
+exec-sound (Rotate r q) s m i h b = updated-sound q _ s (rotation-fits r _ _ (held-below q s m h b)) h
 exec-sound (Bit k q) s m i h b = flags-sound _ s (tested-below _ _ _) h
-exec-sound (Res k q) s m i h b = placed-sound q _ s m (reset-below k _ (held-below q s m h b)) h
-exec-sound (Set k q) s m i h b = placed-sound q _ s m (set-below k _ (held-below q s m h b)) h
+exec-sound (Res k q) s m i h b = placed-sound q _ s (reset-below k _ (held-below q s m h b)) h
+exec-sound (Set k q) s m i h b = placed-sound q _ s (set-below k _ (held-below q s m h b)) h
 exec-sound Di s m i h b = omega arith
 exec-sound Ei s m i h b = omega arith
-exec-sound (CallIf cc w) s m i h b = called-sound _ w s m i h
+exec-sound (CallIf cc w) s m i h b = called-sound _ w s i h
 exec-sound (Push rp) s m i h b = omega (arith, back-below 2 (s .sp))
 exec-sound (Call w) s m i h b = omega (arith, back-below 2 (s .sp), i)
 exec-sound (Rst v) s m i h b = omega (arith, back-below 2 (s .sp), i)
@@ -219,83 +218,100 @@ pub stored-bytes : (m : List ℕ) (to v : ℕ) → v < 256 → Bytes m → Bytes
 stored-bytes m to v p b at = stored-small m to v at _ _ refl refl p b
 
 made-bytes : (xs : List Store) (m : List ℕ) → Small xs → Bytes m → Bytes (made xs m)
-unfolding made
 made-bytes [] m p b = b
 made-bytes (x ∷ xs) m p b = made-bytes xs _ (p .1) (stored-bytes m (x .at) (x .value) (p .0) b)
 
-push-small : (w : ℕ) (s : Cpu) → Small (pushStores w s)
-unfolding pushStores
-push-small w s = (high-below w, (low-below w, tt))
+-- what an instruction stores: at most two bytes, each below 256
+pub record Stored (i : Insn) (s : Cpu) (m : List ℕ) (xs : List Store) : Type 0 where
+  pub few : length xs ≤ 2
+  pub small : SoundInsn i → Sound s → Bytes m → Small xs
 
-call-small : (t : Bool) (s : Cpu) → Small (callStores t s)
-unfolding callStores
-call-small true s = push-small (s .pc) s
-call-small false s = tt
+module _ {i : Insn} {s : Cpu} {m : List ℕ} where
+  none : Stored i s m []
+  none = record { few = omega arith; small = λ _ _ _. tt }
 
-place-small : (q : Place) (v : ℕ) (s : Cpu) → v < 256 → Small (placeStores q v s)
-unfolding placeStores
-place-small place.B v s p = tt
-place-small place.C v s p = tt
-place-small place.D v s p = tt
-place-small place.E v s p = tt
-place-small place.H v s p = tt
-place-small place.L v s p = tt
-place-small place.AtHl v s p = (p, tt)
-place-small place.A v s p = tt
+  one : {at v : ℕ} → (SoundInsn i → Sound s → Bytes m → v < 256) → Stored i s m (store at v ∷ [])
+  one p = record { few = omega arith; small = λ i h b. (p i h b, tt) }
 
-exec-small : (i : Insn) (s : Cpu) (m : List ℕ) → SoundInsn i → Sound s → Bytes m → Small (execStores i s m)
-unfolding execStores
-exec-small Nop s m i h b = tt
-exec-small (StoreSp w) s m i h b = (low-below (s .sp), (high-below (s .sp), tt))
-exec-small Stop s m i h b = tt
-exec-small (Jr e) s m i h b = tt
-exec-small (JrIf cc e) s m i h b = tt
-exec-small (LoadPair w rp) s m i h b = tt
-exec-small (AddHl rp) s m i h b = tt
-exec-small (StoreAt p) s m i h b = (h .a, tt)
-exec-small (LoadAt p) s m i h b = tt
-exec-small (IncPair rp) s m i h b = tt
-exec-small (DecPair rp) s m i h b = tt
-exec-small (Inc q) s m i h b = place-small q _ s (increased-fits _ _ .value-below)
-exec-small (Dec q) s m i h b = place-small q _ s (decreased-fits _ _ .value-below)
-exec-small (Load q o) s m i h b = place-small q _ s (value-below o s m i h b)
-exec-small (RotateA r) s m i h b = tt
-exec-small Daa s m i h b = tt
-exec-small Cpl s m i h b = tt
-exec-small Scf s m i h b = tt
-exec-small Ccf s m i h b = tt
-exec-small Halt s m i h b = tt
-exec-small (Math op o) s m i h b = tt
-exec-small (RetIf cc) s m i h b = tt
-exec-small (StoreHigh n) s m i h b = (h .a, tt)
-exec-small (AddSp e) s m i h b = tt
-exec-small (LoadHigh n) s m i h b = tt
-exec-small (LoadHlSp e) s m i h b = tt
-exec-small (Pop rp) s m i h b = tt
-exec-small Ret s m i h b = tt
-exec-small Reti s m i h b = tt
-exec-small JumpHl s m i h b = tt
-exec-small LoadSpHl s m i h b = tt
-exec-small (JumpIf cc w) s m i h b = tt
-exec-small StoreHighC s m i h b = (h .a, tt)
-exec-small (StoreTo w) s m i h b = (h .a, tt)
-exec-small LoadHighC s m i h b = tt
-exec-small (LoadFrom w) s m i h b = tt
-exec-small (Jump w) s m i h b = tt
-exec-small (Rotate r q) s m i h b = place-small q _ s (rotation-fits r _ _ (held-below q s m h b) .value-below)
-exec-small (Bit k q) s m i h b = tt
-exec-small (Res k q) s m i h b = place-small q _ s (reset-below k _ (held-below q s m h b))
-exec-small (Set k q) s m i h b = place-small q _ s (set-below k _ (held-below q s m h b))
-exec-small Di s m i h b = tt
-exec-small Ei s m i h b = tt
-exec-small (CallIf cc w) s m i h b = call-small _ s
-exec-small (Push rp) s m i h b = push-small _ s
-exec-small (Call w) s m i h b = call-small true s
-exec-small (Rst v) s m i h b = call-small true s
-exec-small Undefined s m i h b = tt
+  two : {at v to w : ℕ} → v < 256 → w < 256 → Stored i s m (store at v ∷ store to w ∷ [])
+  two p q = record { few = omega arith; small = λ _ _ _. (p, (q, tt)) }
 
-pub exec-bytes : (i : Insn) (s : Cpu) (m : List ℕ) → SoundInsn i → Sound s → Bytes m → Bytes (execOf i s m .mem)
-exec-bytes i s m k h b = rw (exec-made i s m) (made-bytes (execStores i s m) m (exec-small i s m k h b) b)
+  push-stores : (w : ℕ) (t : Cpu) → Stored i s m (pushedOf w t .stores)
+  unfolding pushedOf
+  push-stores w t = two (high-below w) (low-below w)
+
+  call-stores : (t : Bool) (to : ℕ) (s′ : Cpu) → Stored i s m (calledIf t to s′ .stores)
+  unfolding calledIf calledOf
+  call-stores true to s′ = push-stores _ _
+  call-stores false to s′ = none
+
+  place-stores : (q : Place) (v : ℕ) (t : Cpu) → (SoundInsn i → Sound s → Bytes m → v < 256) → Stored i s m (placedOf q v t .stores)
+  unfolding placedOf
+  place-stores place.B v t p = none
+  place-stores place.C v t p = none
+  place-stores place.D v t p = none
+  place-stores place.E v t p = none
+  place-stores place.H v t p = none
+  place-stores place.L v t p = none
+  place-stores place.AtHl v t p = one p
+  place-stores place.A v t p = none
+
+pub exec-stores : (i : Insn) (s : Cpu) (m : List ℕ) → Stored i s m (execOf i s m .stores)
+unfolding execOf wordStores storedTo storedAtOf calledOf updatedOf
+exec-stores Nop s m = none
+exec-stores (StoreSp w) s m = two (low-below (s .sp)) (high-below (s .sp))
+exec-stores Stop s m = none
+exec-stores (Jr e) s m = none
+exec-stores (JrIf cc e) s m = none
+exec-stores (LoadPair w rp) s m = none
+exec-stores (AddHl rp) s m = none
+exec-stores (StoreAt p) s m = one (λ _ h _. h .a)
+exec-stores (LoadAt p) s m = none
+exec-stores (IncPair rp) s m = none
+exec-stores (DecPair rp) s m = none
+exec-stores (Inc q) s m = place-stores q _ _ (λ i h b. increased-fits _ _ .value-below)
+exec-stores (Dec q) s m = place-stores q _ _ (λ i h b. decreased-fits _ _ .value-below)
+exec-stores (Load q o) s m = place-stores q _ _ (λ i h b. value-below o s m i h b)
+exec-stores (RotateA r) s m = none
+exec-stores Daa s m = none
+exec-stores Cpl s m = none
+exec-stores Scf s m = none
+exec-stores Ccf s m = none
+exec-stores Halt s m = none
+exec-stores (Math op o) s m = none
+exec-stores (RetIf cc) s m = none
+exec-stores (StoreHigh n) s m = one (λ _ h _. h .a)
+exec-stores (AddSp e) s m = none
+exec-stores (LoadHigh n) s m = none
+exec-stores (LoadHlSp e) s m = none
+exec-stores (Pop rp) s m = none
+exec-stores Ret s m = none
+exec-stores Reti s m = none
+exec-stores JumpHl s m = none
+exec-stores LoadSpHl s m = none
+exec-stores (JumpIf cc w) s m = none
+exec-stores StoreHighC s m = one (λ _ h _. h .a)
+exec-stores (StoreTo w) s m = one (λ _ h _. h .a)
+exec-stores LoadHighC s m = none
+exec-stores (LoadFrom w) s m = none
+exec-stores (Jump w) s m = none
+exec-stores (Rotate r q) s m = place-stores q _ _ (λ i h b. rotation-fits r _ _ (held-below q s m h b) .value-below)
+exec-stores (Bit k q) s m = none
+exec-stores (Res k q) s m = place-stores q _ _ (λ i h b. reset-below k _ (held-below q s m h b))
+exec-stores (Set k q) s m = place-stores q _ _ (λ i h b. set-below k _ (held-below q s m h b))
+exec-stores Di s m = none
+exec-stores Ei s m = none
+exec-stores (CallIf cc w) s m = call-stores _ w s
+exec-stores (Push rp) s m = push-stores _ s
+exec-stores (Call w) s m = push-stores _ _
+exec-stores (Rst v) s m = push-stores _ _
+exec-stores Undefined s m = none
+
+pub exec-few : (i : Insn) (s : Cpu) (m : List ℕ) → length (execOf i s m .stores) ≤ 2
+exec-few i s m = exec-stores i s m .few
+
+pub exec-bytes : (i : Insn) (s : Cpu) (m : List ℕ) → SoundInsn i → Sound s → Bytes m → Bytes (made (execOf i s m .stores) m)
+exec-bytes i s m k h b = made-bytes (execOf i s m .stores) m (exec-stores i s m .small k h b) b
 
 -- a dispatch
 
@@ -318,25 +334,25 @@ pub record SoundStep (w : With Stepped) : Type 0 where
   pub mem : Bytes (w .mem)
 
 module _ (s : Cpu) (m : List ℕ) (h : Sound s) (b : Bytes m) where
-  dispatch-sound : SoundStep (accepting 5 (dispatchOf (lowestOf (pendingOf m)) s m))
+  dispatch-sound : SoundStep (accepting (act 5 (dispatchOf (lowestOf (pendingOf m)) s m)) m)
   unfolding dispatchOf pushedOf vectoredOf
   dispatch-sound =
-      let cleared = stored-bytes m 0xFF0F _ (reset-below _ _ (b 0xFF0F)) b in
       record {
         cpu = omega (arith, lowest-most (pendingOf m), back-below 2 (s .sp));
-        mem = stored-bytes _ _ _ (low-below (s .pc)) (stored-bytes _ _ _ (high-below (s .pc)) cleared);
+        mem = made-bytes (dispatchOf (lowestOf (pendingOf m)) s m .stores) m
+            (reset-below _ _ (b 0xFF0F), (high-below (s .pc), (low-below (s .pc), tt))) b;
       }
 
   pub next-sound : SoundInsn (nextInsn s m)
-  unfolding nextInsn insnAt
+  unfolding nextInsn
   next-sound = decode-sound _ _ _ (b _) (word-at-below m (nextRest s) b)
 
   ready-sound : Sound (readyOf (nextAfter s m) s)
   unfolding readyOf nextAfter
   ready-sound = omega (arith, further-below (shapeOf (nextInsn s m) .more) (nextRest s))
 
-  insn-sound : SoundStep (insnRun s m)
-  unfolding insnRun finishedOf endOf
+  insn-sound : SoundStep (accepting (insnAct s m) m)
+  unfolding insnAct endOf
   insn-sound =
       let r = exec-sound (nextInsn s m) (readyOf (nextAfter s m) s) m next-sound ready-sound b in
       record {
@@ -344,19 +360,11 @@ module _ (s : Cpu) (m : List ℕ) (h : Sound s) (b : Bytes m) where
         mem = exec-bytes (nextInsn s m) (readyOf (nextAfter s m) s) m next-sound ready-sound b;
       }
 
-  unmoved : (n k : ℕ) → SoundStep (keeping (record { code = n; cycles = k; cpu = s }) m)
-  unmoved n k = record { cpu = h; mem = b }
-
-  pub ruled-sound : SoundStep (ruled s m)
-  ruled-sound =
-      by-rules SoundStep s m
-      record {
-        stopped = λ _. unmoved 3 0;
-        dispatch = λ _ _. dispatch-sound;
-        idle = λ _ _ _. unmoved 0 1;
-        undefined = λ _ _ _ _. unmoved 4 0;
-        insn = λ _ _ _ _. insn-sound;
-      }
+  rule-sound : SoundStep (accepting (ruleOf s m) m)
+  rule-sound =
+      by-rules (λ a. SoundStep (accepting a m)) s m
+      record { dispatch = dispatch-sound; idle = record { cpu = h; mem = b }; insn = insn-sound }
 
   pub step-sound : SoundStep (stepOf s m)
-  step-sound = by-refusals SoundStep s m record { unfit = λ _. unmoved 1 0; flags = λ _ _. unmoved 2 0; valid = λ _ _. ruled-sound }
+  unfolding stepOf
+  step-sound = by-outcome SoundStep (ruleOf s m) s m (λ _. record { cpu = h; mem = b }) rule-sound (stepRefusals s m)

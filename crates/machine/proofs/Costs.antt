@@ -1,13 +1,16 @@
 -- What a step costs: an instruction at most 6 cycles, of which at most 3 for a branch taken; an accepted step 1 to 6.
 -- Assumes nothing.
 use Prim.Native.Nat.{ℕ, _+_, _≤_}
-use mathlib.Core.Bool.{Bool, true, false}
+use mathlib.Core.Bool.{Bool, true, false, not, _&&_}
 use mathlib.Core.List.{List}
-use mathlib.Core.Path.{_≡_}
+use mathlib.Core.Path.{_≡_, refl, sym, _∙_}
+use borrow.Author.Tests.{eqb-false}
 use native.Mathlib.Omega.{arith}
+use Rattle.arith.specs.Refusals.{Refusal, codeOf, unlessRefused}
 use Rattle.arith.specs.Words.{offsetOf}
+use Rattle.arith.proofs.Refusals.{refused-none}
 use Rattle.insn.specs.Grid.{operandOf}
-use Rattle.insn.specs.Shapes.{shapeOf}
+use Rattle.insn.specs.Shapes.{shapeOf, isUndefined}
 use Rattle.insn.specs.declared.Insn.{Insn}
 use Rattle.insn.specs.declared.Insn.the-variants.{Nop, StoreSp, Stop, Jr, JrIf, LoadPair, AddHl, StoreAt, LoadAt, IncPair, DecPair, Inc, Dec, Load, RotateA, Daa, Cpl, Scf, Ccf, Halt, Math, RetIf, StoreHigh, AddSp, LoadHigh, LoadHlSp, Pop, Ret, Reti, JumpHl, LoadSpHl, JumpIf, StoreHighC, StoreTo, LoadHighC, LoadFrom, Jump, Rotate, Bit, Res, Set, Di, Ei, CallIf, Push, Call, Rst, Undefined}
 use Rattle.insn.proofs.Laws.{access-most}
@@ -15,20 +18,21 @@ use Rattle.machine.specs.Answers.{With}
 use Rattle.machine.specs.State.{metOf}
 use Rattle.machine.specs.Memory.{wordAt}
 use Rattle.machine.specs.Execute.{execOf, jumpedIf, calledIf, returnedIf}
-use Rattle.machine.specs.Step.{readyOf, endOf, finishedOf, stepOf}
+use Rattle.machine.specs.Step.{dispatches, idles, nextInsn, nextAfter, readyOf, endOf, insnAct, ruleBy, ruleOf, inputRefusals, dueRefusals, stepRefusals, stepUnless, stepOf}
 use Rattle.machine.specs.declared.Cpu.{Cpu}
 use Rattle.machine.specs.declared.Stepped.{Stepped}
-use Rattle.machine.proofs.Rules.{ruled, insnRun, nextInsn, nextAfter, by-rules, by-refusals}
+use Rattle.machine.proofs.Rules.{ruled, by-outcome, by-rules}
+use Rattle.machine.proofs.Refused.{unless-code, step-code, step-done}
 
 jumped-most : (t : Bool) (to : ℕ) (s : Cpu) → jumpedIf t to s .extra ≤ 1
 unfolding jumpedIf
 jumped-most true to s = omega arith
 jumped-most false to s = omega arith
 
-called-most : (t : Bool) (to : ℕ) (s : Cpu) (m : List ℕ) → calledIf t to s m .out .extra ≤ 3
+called-most : (t : Bool) (to : ℕ) (s : Cpu) → calledIf t to s .out .extra ≤ 3
 unfolding calledIf
-called-most true to s m = omega arith
-called-most false to s m = omega arith
+called-most true to s = omega arith
+called-most false to s = omega arith
 
 returned-most : (t : Bool) (to : ℕ) (s : Cpu) → returnedIf t to s .extra ≤ 3
 unfolding returnedIf
@@ -85,7 +89,7 @@ exec-cost (Res k p) s m = omega (arith, access-most (operandOf p))
 exec-cost (Set k p) s m = omega (arith, access-most (operandOf p))
 exec-cost Di s m = omega arith
 exec-cost Ei s m = omega arith
-exec-cost (CallIf cc w) s m = omega (arith, called-most (metOf cc (s .f)) w s m)
+exec-cost (CallIf cc w) s m = omega (arith, called-most (metOf cc (s .f)) w s)
 exec-cost (Push rp) s m = omega arith
 exec-cost (Call w) s m = omega arith
 exec-cost (Rst v) s m = omega arith
@@ -103,23 +107,47 @@ pub record Paid (w : With Stepped) : Type 0 where
   pub most : w .out .cycles ≤ 6
 
 module _ (s : Cpu) (m : List ℕ) where
-  pub ruled-paid : Paid (ruled s m)
-  unfolding insnRun finishedOf endOf
-  ruled-paid =
-      by-rules Paid s m
+  rule-most : ruleOf s m .cycles ≤ 6
+  unfolding insnAct endOf
+  rule-most =
+      by-rules (λ a. a .cycles ≤ 6) s m
       record {
-        stopped = λ _. omega arith;
-        dispatch = λ _ _. omega arith;
-        idle = λ _ _ _. omega arith;
-        undefined = λ _ _ _ _. omega arith;
-        insn = λ _ _ _ p. omega (arith, cycles-most (nextInsn s m) (readyOf (nextAfter s m) s) m);
+        dispatch = omega arith;
+        idle = omega arith;
+        insn = cycles-most (nextInsn s m) (readyOf (nextAfter s m) s) m;
+      }
+
+  -- an instruction that is not refused has cycles
+  rule-least : (d i : Bool) → (not d && not i && isUndefined (nextInsn s m)) ≡ false → 1 ≤ ruleBy d i s m .cycles
+  unfolding ruleBy insnAct endOf
+  rule-least true i e = omega arith
+  rule-least false true e = omega arith
+  rule-least false false e = omega (arith, eqb-false (shapeOf (nextInsn s m) .cycles) 0 e)
+
+  most-of : (rs : List Refusal) → stepUnless rs (ruleOf s m) s m .out .cycles ≤ 6
+  most-of = by-outcome (λ w. w .out .cycles ≤ 6) (ruleOf s m) s m (λ _. omega arith) rule-most
+
+  least-of : (rs : List Refusal) → codeOf rs ≡ 0 → 1 ≤ ruleOf s m .cycles → 1 ≤ stepUnless rs (ruleOf s m) s m .out .cycles
+  unfolding unlessRefused
+  least-of rs e p = rw e p
+
+  pub ruled-paid : Paid (ruled s m)
+  unfolding dueRefusals ruleOf
+  ruled-paid =
+      record {
+        least = λ e.
+            let none = sym (unless-code (dueRefusals s m) (ruleOf s m) s m) ∙ e in
+            least-of (dueRefusals s m) none (rule-least (dispatches s m) (idles s m) (refused-none (dueRefusals s m) refl .0 none .1 .0));
+        most = most-of (dueRefusals s m);
       }
 
   pub step-paid : Paid (stepOf s m)
-  step-paid = by-refusals Paid s m record { unfit = λ _. omega arith; flags = λ _ _. omega arith; valid = λ _ _. ruled-paid }
-
-  pub ruled-cost : ruled s m .out .code ≡ 0 → (1 ≤ ruled s m .out .cycles) × (ruled s m .out .cycles ≤ 6)
-  ruled-cost e = (ruled-paid .least e, ruled-paid .most)
-
-  pub step-cost : stepOf s m .out .code ≡ 0 → (1 ≤ stepOf s m .out .cycles) × (stepOf s m .out .cycles ≤ 6)
-  step-cost e = (step-paid .least e, step-paid .most)
+  unfolding inputRefusals dueRefusals stepRefusals ruleOf stepOf
+  step-paid =
+      record {
+        least = λ e.
+            let none = sym (step-code s m) ∙ e in
+            least-of (stepRefusals s m) none
+            (rule-least (dispatches s m) (idles s m) (step-done s m .0 e .1 .1 .1 .0));
+        most = most-of (stepRefusals s m);
+      }

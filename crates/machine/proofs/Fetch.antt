@@ -4,52 +4,49 @@
 use Prim.Native.Nat.{ℕ}
 use mathlib.Core.List.{List}
 use mathlib.Core.Logic.{_≢_}
-use mathlib.Core.Path.{_≡_, _∙_}
-use borrow.Author.Tests.{lt-ltb, le-ltb}
-use native.Mathlib.Omega.{arith}
-use lib.Dec.{ltb}
+use mathlib.Core.Path.{_≡_, ap}
+use borrow.Author.Tests.{ne-eqb}
+use Rattle.arith.specs.Refusals.{order}
 use Rattle.arith.specs.Words.{further}
 use Rattle.insn.specs.Shapes.{shapeOf, shapedOf, decodedOf}
 use Rattle.insn.specs.declared.Decoded.{Decoded}
-use Rattle.machine.specs.Answers.{With}
 use Rattle.machine.specs.Execute.{execOf}
 use Rattle.machine.specs.State.{withIme}
 use Rattle.machine.specs.Memory.{byteAt, wordAt}
-use Rattle.machine.specs.Step.{refusing, insnAt, readyOf, settledIme, finishedOf, definedStep, insnStep}
+use Rattle.machine.specs.Modes.{settledIme}
+use Rattle.machine.specs.Step.{Act, refusing, accepting, nextRest, nextInsn, nextAfter, readyOf, endOf, insnAct}
 use Rattle.machine.specs.declared.Ime.{Ime}
 use Rattle.machine.specs.declared.Ime.the-variants.{Off}
 use Rattle.machine.specs.declared.Cpu.{Cpu}
-use Rattle.machine.specs.declared.Stepped.{Stepped}
 use Rattle.machine.proofs.Arming.{settled-first}
+use Rattle.machine.proofs.Stages.{instructed}
 
-module _ (s : Cpu) (m : List ℕ) (rest : ℕ) (d : Decoded)
-    (read : d ≡ decodedOf (byteAt m (s .pc)) (byteAt m rest) (wordAt m rest)) where
-  shaped : d ≡ shapedOf (insnAt (s .pc) rest m)
-  unfolding decodedOf insnAt
+module _ (s : Cpu) (m : List ℕ) (d : Decoded)
+    (read : d ≡ decodedOf (byteAt m (s .pc)) (byteAt m (nextRest s)) (wordAt m (nextRest s))) where
+  shaped : d ≡ shapedOf (nextInsn s m)
+  unfolding decodedOf nextInsn
   shaped = read
 
-  abbrev here : With Stepped
-  here = insnStep (insnAt (s .pc) rest m) rest s m
-
-  told : here ≡ definedStep (ltb 0 (d .cycles)) (d .insn) rest s m
-  unfolding insnStep shapedOf
-  told = rw shaped
+  insn-told : d .insn ≡ nextInsn s m
+  unfolding shapedOf
+  insn-told = rw shaped
 
   pub cycles-told : d .cycles ≡ shapeOf (d .insn) .cycles
   unfolding shapedOf
   cycles-told = rw shaped
 
-  more-told : d .more ≡ shapeOf (d .insn) .more
-  unfolding shapedOf
+  more-told : further (d .more) (nextRest s) ≡ nextAfter s m
+  unfolding shapedOf nextAfter
   more-told = rw shaped
 
-  pub undefined-here : d .cycles ≡ 0 → here ≡ refusing 4 s m
-  unfolding definedStep
-  undefined-here e = told ∙ rw (le-ltb 0 (d .cycles) (omega arith))
+  pub undefined-here : d .cycles ≡ 0 → instructed s m ≡ refusing 4 s m
+  unfolding order
+  undefined-here e = rw (← insn-told, ← cycles-told, e)
 
   pub runs-here : (ime : Ime) → ime ≡ settledIme (s .ime) (s .ime) → d .cycles ≢ 0
-      → here ≡ finishedOf (d .cycles) Off (execOf (d .insn) (withIme ime (readyOf (further (d .more) rest) s)) m)
-  unfolding definedStep readyOf
+      → instructed s m
+      ≡ accepting (endOf (d .cycles) Off (execOf (d .insn) (withIme ime (readyOf (further (d .more) (nextRest s)) s)) m)) m
+  unfolding order readyOf insnAct
   runs-here ime e ne =
-      told ∙ rw (lt-ltb 0 (d .cycles) (omega arith), ← cycles-told, ← more-told, e)
-      (settled-first (d .cycles) (d .insn) (readyOf (further (d .more) rest) s) m)
+      rw (← insn-told, ← cycles-told, ← more-told, ne-eqb (d .cycles) 0 ne, e)
+      (ap (λ (a : Act). accepting a m) (settled-first (d .cycles) (d .insn) (readyOf (further (d .more) (nextRest s)) s) m))

@@ -19,6 +19,7 @@ use Rattle.insn.specs.declared.Stacked.{Stacked}
 use Rattle.insn.specs.declared.Stacked.the-variants as stacked
 use Rattle.insn.specs.declared.Pointer.{Pointer}
 use Rattle.insn.specs.declared.Pointer.the-variants as pointer
+use Rattle.machine.specs.Answers.{storing}
 use Rattle.machine.specs.State.{withF, withIme, regOf, withReg, hlOf, setHl, pairOf, withPair, stackedOf, withStacked}
 use Rattle.machine.specs.Stack.{pushedOf, returnedTo, calledOf}
 use Rattle.machine.specs.Operands.{valueOf, heldOf, placedOf, updatedOf, pointedOf, movedOf}
@@ -53,31 +54,31 @@ moved-same pointer.De s = refl
 moved-same pointer.Hli s = refl
 moved-same pointer.Hld s = refl
 
-pub placed-same : (p : Place) (v : ℕ) (s : Cpu) (m : List ℕ) → placedOf p v s m .out .f ≡ s .f
+pub placed-same : (p : Place) (v : ℕ) (s : Cpu) → placedOf p v s .out .f ≡ s .f
 unfolding placedOf
-placed-same place.B v s m = reg-same reg.B v s
-placed-same place.C v s m = reg-same reg.C v s
-placed-same place.D v s m = reg-same reg.D v s
-placed-same place.E v s m = reg-same reg.E v s
-placed-same place.H v s m = reg-same reg.H v s
-placed-same place.L v s m = reg-same reg.L v s
-placed-same place.AtHl v s m = refl
-placed-same place.A v s m = reg-same reg.A v s
+placed-same place.B v s = reg-same reg.B v s
+placed-same place.C v s = reg-same reg.C v s
+placed-same place.D v s = reg-same reg.D v s
+placed-same place.E v s = reg-same reg.E v s
+placed-same place.H v s = reg-same reg.H v s
+placed-same place.L v s = reg-same reg.L v s
+placed-same place.AtHl v s = refl
+placed-same place.A v s = reg-same reg.A v s
 
 -- a result put back has its own F
-pub updated-same : (p : Place) (b : Byte) (s : Cpu) (m : List ℕ) → updatedOf p b s m .out .f ≡ b .flags
+pub updated-same : (p : Place) (b : Byte) (s : Cpu) → updatedOf p b s .out .f ≡ b .flags
 unfolding updatedOf
-updated-same p b s m = placed-same p (b .value) (withF (b .flags) s) m
+updated-same p b s = placed-same p (b .value) (withF (b .flags) s)
 
 pub jumped-same : (t : Bool) (to : ℕ) (s : Cpu) → jumpedIf t to s .cpu .f ≡ s .f
 unfolding jumpedIf
 jumped-same true to s = refl
 jumped-same false to s = refl
 
-pub called-same : (t : Bool) (to : ℕ) (s : Cpu) (m : List ℕ) → calledIf t to s m .out .cpu .f ≡ s .f
+pub called-same : (t : Bool) (to : ℕ) (s : Cpu) → calledIf t to s .out .cpu .f ≡ s .f
 unfolding calledIf calledOf pushedOf
-called-same true to s m = refl
-called-same false to s m = refl
+called-same true to s = refl
+called-same false to s = refl
 
 pub returned-same : (t : Bool) (to : ℕ) (s : Cpu) → returnedIf t to s .cpu .f ≡ s .f
 unfolding returnedIf returnedTo
@@ -142,17 +143,17 @@ module _ (u : Ime) (s : Cpu) where
   reg-left reg.L v = refl
   reg-left reg.A v = refl
 
-  pub placed-left : (p : Place) (v : ℕ) (m : List ℕ)
-      → placedOf p v (withIme u s) m ≡ record { out = withIme u (placedOf p v s m .out); mem = placedOf p v s m .mem }
+  pub placed-left : (p : Place) (v : ℕ)
+      → placedOf p v (withIme u s) ≡ storing (withIme u (placedOf p v s .out)) (placedOf p v s .stores)
   unfolding placedOf hlOf
-  placed-left place.B v m = rw reg-left
-  placed-left place.C v m = rw reg-left
-  placed-left place.D v m = rw reg-left
-  placed-left place.E v m = rw reg-left
-  placed-left place.H v m = rw reg-left
-  placed-left place.L v m = rw reg-left
-  placed-left place.AtHl v m = refl
-  placed-left place.A v m = rw reg-left
+  placed-left place.B v = rw reg-left
+  placed-left place.C v = rw reg-left
+  placed-left place.D v = rw reg-left
+  placed-left place.E v = rw reg-left
+  placed-left place.H v = rw reg-left
+  placed-left place.L v = rw reg-left
+  placed-left place.AtHl v = refl
+  placed-left place.A v = rw reg-left
 
   pub pair-left : (rp : Pair) (w : ℕ) → withPair rp w (withIme u s) ≡ withIme u (withPair rp w s)
   unfolding withPair setHl
@@ -180,18 +181,18 @@ module _ (u : Ime) (s : Cpu) where
   jumped-left true to = refl
   jumped-left false to = refl
 
-  pub called-left : (t : Bool) (to : ℕ) (m : List ℕ)
-      → calledIf t to (withIme u s) m ≡ record { out = imed u (calledIf t to s m .out); mem = calledIf t to s m .mem }
+  pub called-left : (t : Bool) (to : ℕ)
+      → calledIf t to (withIme u s) ≡ storing (imed u (calledIf t to s .out)) (calledIf t to s .stores)
   unfolding calledIf calledOf pushedOf
-  called-left true to m = refl
-  called-left false to m = refl
+  called-left true to = refl
+  called-left false to = refl
 
   pub returned-left : (t : Bool) (to : ℕ) → returnedIf t to (withIme u s) ≡ imed u (returnedIf t to s)
   unfolding returnedIf returnedTo
   returned-left true to = refl
   returned-left false to = refl
 
-pub updated-left : (u : Ime) (s : Cpu) (p : Place) (b : Byte) (m : List ℕ)
-    → updatedOf p b (withIme u s) m ≡ record { out = withIme u (updatedOf p b s m .out); mem = updatedOf p b s m .mem }
+pub updated-left : (u : Ime) (s : Cpu) (p : Place) (b : Byte)
+    → updatedOf p b (withIme u s) ≡ storing (withIme u (updatedOf p b s .out)) (updatedOf p b s .stores)
 unfolding updatedOf
-updated-left u s p b m = placed-left u (withF (b .flags) s) p (b .value) m
+updated-left u s p b = placed-left u (withF (b .flags) s) p (b .value)

@@ -3,12 +3,12 @@ pub mod Gives
 pub mod ReadOverWrite
 pub mod Fields
 pub mod Rules
-pub mod Costs
 pub mod Refused
-pub mod Stores
+pub mod Costs
 pub mod Keeps
 pub mod Sound
 pub mod Bounds
+pub mod Stores
 pub mod Arming
 pub mod Runs
 pub mod Stages

@@ -1,17 +1,17 @@
 -- Reading what was stored: a byte at the address of a store is the byte stored, and every other byte is as it was; the same of
--- words and of a push.
+-- a list of stores, of words and of a push.
 -- Assumes nothing.
 use Prim.Native.Nat.{ℕ, _<_, _≤_}
-use mathlib.Core.List.{List}
+use mathlib.Core.List.{List, [], _∷_}
 use mathlib.Core.Logic.{_≢_}
-use mathlib.Core.Path.{_≡_, _∙_}
+use mathlib.Core.Path.{_≡_, refl, _∙_}
 use native.Mathlib.Omega.{arith}
 use lib.ListN.{length, length-set}
 use lib.Seq.{getD-set-same, getD-set-other, set-set, set-comm, set-getD, set-out}
 use Rattle.arith.specs.Width.{sumOf, differenceOf}
 use Rattle.arith.specs.Words.{highOf, lowOf, further, back}
 use Rattle.arith.proofs.Laws.{word-back, further-below, back-below, further-back}
-use Rattle.machine.specs.Memory.{byteAt, stored, wordAt, storedWord}
+use Rattle.machine.specs.Memory.{byteAt, wordAt, Store, wordStores, stored, made}
 use Rattle.machine.specs.Stack.{pushedOf}
 use Rattle.machine.specs.declared.Cpu.{Cpu}
 
@@ -48,6 +48,21 @@ module _ (m : List ℕ) where
   unfolding byteAt stored
   stored-undone at v = set-set m at v _ ∙ set-getD m at 0
 
+-- stores in their order
+
+pub made-length : (xs : List Store) (m : List ℕ) → length (made xs m) ≡ length m
+made-length [] m = refl
+made-length (x ∷ xs) m = made-length xs _ ∙ stored-length m (x .at) (x .value)
+
+-- an address that no store of a list touches, and the byte at it
+abbrev pub Spared : ℕ → List Store → Type 0
+Spared at [] = Unit {0}
+Spared at (x ∷ xs) = (at ≢ x .at) × Spared at xs
+
+pub made-other : (xs : List Store) (m : List ℕ) (at : ℕ) → Spared at xs → byteAt (made xs m) at ≡ byteAt m at
+made-other [] m at h = refl
+made-other (x ∷ xs) m at h = made-other xs _ at (h .1) ∙ stored-other m (x .at) (x .value) at (h .0)
+
 -- addresses one and two apart
 
 pub further-apart : (at : ℕ) → at ≢ further 1 at
@@ -65,12 +80,8 @@ back-next at = omega arith
 -- words
 
 module _ (m : List ℕ) where
-  pub word-length : (at w : ℕ) → length (storedWord m at w) ≡ length m
-  unfolding storedWord
-  word-length at w = stored-length _ _ _ ∙ stored-length m at (lowOf w)
-
-  pub word-same : (at w : ℕ) → length m ≡ 65536 → at < 65536 → w < 65536 → wordAt (storedWord m at w) at ≡ w
-  unfolding wordAt storedWord
+  pub word-same : (at w : ℕ) → length m ≡ 65536 → at < 65536 → w < 65536 → wordAt (made (wordStores at w) m) at ≡ w
+  unfolding wordAt wordStores
   word-same at w l p q =
       let lower = stored m at (lowOf w) in
       let high = stored-same lower (further 1 at) (highOf w) (rw stored-length (omega (arith, further-below 1 at))) in
@@ -78,9 +89,9 @@ module _ (m : List ℕ) where
       let low = stored-same m at (lowOf w) (omega arith) in
       rw (high, kept, low) (word-back w q)
 
-  pub word-other : (to w at : ℕ) → at ≢ to → at ≢ further 1 to → byteAt (storedWord m to w) at ≡ byteAt m at
-  unfolding storedWord
-  word-other to w at p q = stored-other _ (further 1 to) (highOf w) at q ∙ stored-other m to (lowOf w) at p
+  pub word-other : (to w at : ℕ) → at ≢ to → at ≢ further 1 to → byteAt (made (wordStores to w) m) at ≡ byteAt m at
+  unfolding wordStores
+  word-other to w at p q = made-other (wordStores to w) m at (p, (q, tt))
 
   pub word-unstored : (to v at : ℕ) → at ≢ to → further 1 at ≢ to → wordAt (stored m to v) at ≡ wordAt m at
   unfolding wordAt
@@ -89,11 +100,7 @@ module _ (m : List ℕ) where
 -- a push: the word lies where SP points afterwards, and the rest of the memory is as it was
 
 module _ (w : ℕ) (s : Cpu) (m : List ℕ) where
-  pub push-length : length (pushedOf w s m .mem) ≡ length m
-  unfolding pushedOf
-  push-length = stored-length _ _ _ ∙ stored-length m (back 1 (s .sp)) (highOf w)
-
-  pub push-same : length m ≡ 65536 → w < 65536 → wordAt (pushedOf w s m .mem) (pushedOf w s m .out .sp) ≡ w
+  pub push-same : length m ≡ 65536 → w < 65536 → wordAt (made (pushedOf w s .stores) m) (pushedOf w s .out .sp) ≡ w
   unfolding pushedOf wordAt
   push-same l q =
       let higher = stored m (back 1 (s .sp)) (highOf w) in
@@ -102,11 +109,11 @@ module _ (w : ℕ) (s : Cpu) (m : List ℕ) where
       let high = stored-same m (back 1 (s .sp)) (highOf w) (omega (arith, back-below 1 (s .sp))) in
       rw (back-next (s .sp), low, kept, high) (word-back w q)
 
-  pub push-other : (at : ℕ) → at ≢ back 1 (s .sp) → at ≢ back 2 (s .sp) → byteAt (pushedOf w s m .mem) at ≡ byteAt m at
+  pub push-other : (at : ℕ) → at ≢ back 1 (s .sp) → at ≢ back 2 (s .sp) → byteAt (made (pushedOf w s .stores) m) at ≡ byteAt m at
   unfolding pushedOf
-  push-other at p q = stored-other _ (back 2 (s .sp)) (lowOf w) at q ∙ stored-other m (back 1 (s .sp)) (highOf w) at p
+  push-other at p q = made-other (pushedOf w s .stores) m at (p, (q, tt))
 
   -- and SP comes back where a word is popped
-  pub push-popped : s .sp < 65536 → further 2 (pushedOf w s m .out .sp) ≡ s .sp
+  pub push-popped : s .sp < 65536 → further 2 (pushedOf w s .out .sp) ≡ s .sp
   unfolding pushedOf
   push-popped p = further-back 2 (s .sp) (omega arith) p

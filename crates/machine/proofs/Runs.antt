@@ -8,12 +8,14 @@ use mathlib.Core.Logic.{_≢_}
 use mathlib.Core.Path.{_≡_, refl, sym, ap, _∙_}
 use native.Mathlib.Nat.{zero-add, add-zero, add-assoc}
 use native.Mathlib.Omega.{arith}
-use borrow.Author.Tests.{ltb-true, ltb-false, lt-ltb, le-ltb, le-leb, lt-leb, eq-eqb, ne-eqb, eqb-true, eqb-false}
-use lib.Dec.{eqb, ltb, leb}
+use borrow.Author.Tests.{ltb-true, ltb-false, lt-ltb, le-ltb, eq-eqb, ne-eqb, eqb-true, eqb-false}
+use lib.Dec.{eqb, ltb}
 use lib.ListN.{length}
+use Rattle.arith.specs.Refusals.{codeOf, unlessRefused, order}
+use Rattle.arith.proofs.Refusals.{by-code}
 use Rattle.machine.specs.Answers.{With}
 use Rattle.machine.specs.Step.{stepOf}
-use Rattle.machine.specs.Run.{ending, whileBelow, unlessRefused, afterStep, runFrom, budgetRun, flagsRun, lengthRun, runOf}
+use Rattle.machine.specs.Run.{ending, whileBelow, afterStep, runFrom, runRefusals, runOf, runs}
 use Rattle.machine.specs.declared.Cpu.{Cpu}
 use Rattle.machine.specs.declared.Ran.{Ran}
 use Rattle.machine.specs.declared.Stepped.{Stepped}
@@ -29,12 +31,12 @@ data Turn (b spent : ℕ) (s : Cpu) (m : List ℕ) : Type 0 where
   goes : spent < b → stepOf s m .out .code ≡ 0 → Turn b spent s m
 
 module _ (b spent : ℕ) (s : Cpu) (m : List ℕ) where
-  by-code : spent < b → (n : ℕ) → stepOf s m .out .code ≡ n → Turn b spent s m
-  by-code p zero e = goes p e
-  by-code p (suc n) e = refused n p e
+  by-answer : spent < b → (n : ℕ) → stepOf s m .out .code ≡ n → Turn b spent s m
+  by-answer p zero e = goes p e
+  by-answer p (suc n) e = refused n p e
 
   by-budget : (t : Bool) → ltb spent b ≡ t → Turn b spent s m
-  by-budget true e = by-code (ltb-true _ _ e) _ refl
+  by-budget true e = by-answer (ltb-true _ _ e) _ refl
   by-budget false e = over (ltb-false _ _ e)
 
   turn : Turn b spent s m
@@ -138,40 +140,37 @@ run-counted b s m = counted b b 0 0 s m (omega arith) (omega arith) (omega arith
 
 -- refusals 1, 2 and 5, in their order, and then the turns
 pub run-unfit : (b : ℕ) (s : Cpu) (m : List ℕ) → length m ≢ 65536 → runOf b s m ≡ ending 1 0 0 s m
-unfolding runOf lengthRun
+unfolding order runs
 run-unfit b s m l = rw (ne-eqb _ _ l)
 
 pub run-flags : (b : ℕ) (s : Cpu) (m : List ℕ) → length m ≡ 65536 → s .f % 16 ≢ 0 → runOf b s m ≡ ending 2 0 0 s m
-unfolding runOf lengthRun flagsRun
+unfolding order runs
 run-flags b s m l f = rw (eq-eqb _ _ l, ne-eqb _ _ f)
 
 pub run-budget : (b : ℕ) (s : Cpu) (m : List ℕ) → length m ≡ 65536 → s .f % 16 ≡ 0 → 1048576 < b
     → runOf b s m ≡ ending 5 0 0 s m
-unfolding runOf lengthRun flagsRun budgetRun
-run-budget b s m l f p = rw (eq-eqb _ _ l, eq-eqb _ _ f, lt-leb _ _ p)
+unfolding order runs
+run-budget b s m l f p = rw (eq-eqb _ _ l, eq-eqb _ _ f, lt-ltb _ _ p)
 
 pub run-valid : (b : ℕ) (s : Cpu) (m : List ℕ) → length m ≡ 65536 → s .f % 16 ≡ 0 → b ≤ 1048576
     → runOf b s m ≡ runFrom b b 0 0 s m
-unfolding runOf lengthRun flagsRun budgetRun
-run-valid b s m l f p = rw (eq-eqb _ _ l, eq-eqb _ _ f, le-leb _ _ p)
+unfolding order runs
+run-valid b s m l f p = rw (eq-eqb _ _ l, eq-eqb _ _ f, le-ltb _ _ p)
 
 -- budget 0 takes no step
 pub run-none : (s : Cpu) (m : List ℕ) → length m ≡ 65536 → s .f % 16 ≡ 0 → runOf 0 s m ≡ ending 0 0 0 s m
 unfolding runFrom
 run-none s m l f = run-valid 0 s m l f (omega arith)
 
--- counts of a run with its refusals
-counted-of : (b : ℕ) (s : Cpu) (m : List ℕ) (l f p : Bool)
-    → eqb (length m) 65536 ≡ l → eqb (s .f % 16) 0 ≡ f → leb b 1048576 ≡ p
-    → Counted b (runOf b s m)
-unfolding runOf lengthRun flagsRun budgetRun
-counted-of b s m true true true l f p = rw (l, f, p) (run-counted b s m)
-counted-of b s m true true false l f p = rw (l, f, p) (omega arith)
-counted-of b s m true false p l f q = rw (l, f) (omega arith)
-counted-of b s m false f p l g q = rw l (omega arith)
+-- what holds of the turns and of every refused run holds of a run
+pub by-run : (P : With Ran → Type 0) (b : ℕ) (s : Cpu) (m : List ℕ) → ((n : ℕ) → P (ending (suc n) 0 0 s m))
+    → P (runFrom b b 0 0 s m) → P (runOf b s m)
+unfolding runOf
+by-run P b s m r q = by-code P (λ _. runFrom b b 0 0 s m) (λ n. ending n 0 0 s m) r q (codeOf (runRefusals b s m))
 
+-- counts of a run with its refusals
 pub run-of-counted : (b : ℕ) (s : Cpu) (m : List ℕ) → Counted b (runOf b s m)
-run-of-counted b s m = counted-of b s m _ _ _ refl refl refl
+run-of-counted b s m = by-run (Counted b) b s m (λ _. omega arith) (run-counted b s m)
 
 -- what each step keeps, a run keeps
 

@@ -1,18 +1,24 @@
 -- Interrupt requests: pending, the lowest request, the dispatch. Document 01, "What the core is" and rule 1 of "One step".
 -- Assumes nothing.
-use Prim.Native.Nat.{ℕ, _+_, _*_}
+use Prim.Native.Nat.{ℕ, _+_, _*_, _%_}
 use mathlib.Core.Bool.{Bool, true, false, not, _&&_}
-use mathlib.Core.List.{List}
+use mathlib.Core.List.{_∷_}
+use lib.Bits.{bitAnd}
 use lib.Dec.{eqb}
 use Rattle.arith.specs.Bytes.{bitOf, resetOf}
-use Rattle.machine.specs.Answers.{With}
-use Rattle.machine.specs.Memory.{byteAt, stored}
+use Rattle.machine.specs.Memory.{Memory, byteAt, store}
+use Rattle.machine.specs.Answers.{Storing, storing}
 use Rattle.machine.specs.State.{withPc, withIme, withMode}
+use Rattle.machine.specs.Modes.{isOn}
 use Rattle.machine.specs.Stack.{pushedOf}
 use Rattle.machine.specs.declared.Ime.{Ime}
-use Rattle.machine.specs.declared.Ime.the-variants.{Off, Arming, On}
+use Rattle.machine.specs.declared.Ime.the-variants.{Off}
 use Rattle.machine.specs.declared.Mode.the-variants.{Running}
 use Rattle.machine.specs.declared.Cpu.{Cpu}
+
+-- pending: the bitwise AND of IE at $FFFF and IF at $FF0F, low five bits
+unfoldable pub pendingOf : Memory → ℕ
+pendingOf m = bitAnd (byteAt m 0xFFFF) (byteAt m 0xFF0F) % 32
 
 -- the lowest set bit of a number below 32 that is not 0
 unfoldable pub lowestSet : Bool → Bool → Bool → Bool → ℕ
@@ -26,11 +32,6 @@ unfoldable pub lowestOf : ℕ → ℕ
 lowestOf p = lowestSet (bitOf 0 p) (bitOf 1 p) (bitOf 2 p) (bitOf 3 p)
 
 -- a dispatch is due: IME On and pending not 0
-unfoldable pub isOn : Ime → Bool
-isOn Off = false
-isOn Arming = false
-isOn On = true
-
 unfoldable pub dispatchDueOf : Ime → ℕ → Bool
 dispatchDueOf ime p = isOn ime && not (eqb p 0)
 
@@ -39,5 +40,7 @@ unfoldable pub vectoredOf : ℕ → Cpu → Cpu
 vectoredOf k s = withPc (0x40 + 8 * k) (withIme Off (withMode Running s))
 
 -- the dispatch of bit k: clear bit k of IF, then push PC
-unfoldable pub dispatchOf : ℕ → Cpu → List ℕ → With Cpu
-dispatchOf k s m = pushedOf (s .pc) (vectoredOf k s) (stored m 0xFF0F (resetOf k (byteAt m 0xFF0F)))
+unfoldable pub dispatchOf : ℕ → Cpu → Memory → Storing Cpu
+dispatchOf k s m =
+    let pushed = pushedOf (s .pc) (vectoredOf k s) in
+    storing (pushed .out) (store 0xFF0F (resetOf k (byteAt m 0xFF0F)) ∷ pushed .stores)

@@ -1,11 +1,12 @@
--- The definition of the machine. Read in this order; the numbers are defined in the crate arith, the grid and what each
--- instruction takes in the crate insn.
+-- The definition of the machine. Read in this order; the numbers and the order of refusals are defined in the crate arith, the grid
+-- and what each instruction takes in the crate insn.
+pub mod Memory
 pub mod Answers
 pub mod State
-pub mod Memory
+pub mod Modes
 pub mod Stack
 pub mod Operands
-pub mod Execute
 pub mod Interrupts
+pub mod Execute
 pub mod Step
 pub mod Run

@@ -1,27 +1,42 @@
 -- The memory: a list of bytes, flat, with no protected bytes. Two-byte accesses lie low byte first, and their addresses count
 -- modulo 65,536. Document 01, "What the core is" and "One step".
 -- Assumes nothing.
-use Prim.Native.Nat.{ℕ, _%_}
-use mathlib.Core.List.{List}
-use lib.Bits.{bitAnd}
+use Prim.Native.Nat.{ℕ}
+use mathlib.Core.List.{List, [], _∷_}
 use lib.ListN.{getD, set}
 use Rattle.arith.specs.Words.{wordOf, highOf, lowOf, further}
 
+abbrev pub Memory : Type 0
+Memory = List ℕ
+
+-- it has exactly so many bytes
+abbrev pub memorySize : ℕ
+memorySize = 65536
+
 -- the one read
-unfoldable pub byteAt : List ℕ → ℕ → ℕ
+unfoldable pub byteAt : Memory → ℕ → ℕ
 byteAt m at = getD m at 0
 
--- the one store
-unfoldable pub stored : List ℕ → ℕ → ℕ → List ℕ
-stored m at v = set m at v
-
 -- a word, low byte first
-unfoldable pub wordAt : List ℕ → ℕ → ℕ
+unfoldable pub wordAt : Memory → ℕ → ℕ
 wordAt m at = wordOf (byteAt m (further 1 at)) (byteAt m at)
 
-unfoldable pub storedWord : List ℕ → ℕ → ℕ → List ℕ
-storedWord m at w = stored (stored m at (lowOf w)) (further 1 at) (highOf w)
+-- a byte stored: where, and what
+pub record Store : Type 0 where
+  pub at : ℕ
+  pub value : ℕ
 
--- pending: the bitwise AND of IE at $FFFF and IF at $FF0F, low five bits
-unfoldable pub pendingOf : List ℕ → ℕ
-pendingOf m = bitAnd (byteAt m 0xFFFF) (byteAt m 0xFF0F) % 32
+abbrev pub store : ℕ → ℕ → Store
+store at v = record { at = at; value = v }
+
+-- a word is stored low byte first
+unfoldable pub wordStores : ℕ → ℕ → List Store
+wordStores at w = store at (lowOf w) ∷ store (further 1 at) (highOf w) ∷ []
+
+-- the one store, and a memory with stores made in their order
+unfoldable pub stored : Memory → ℕ → ℕ → Memory
+stored m at v = set m at v
+
+abbrev pub made : List Store → Memory → Memory
+made [] m = m
+made (x ∷ xs) m = made xs (stored m (x .at) (x .value))

@@ -2,7 +2,7 @@
 -- pointers that A is stored and loaded through. Document 01, "The opcode grid".
 -- Assumes nothing.
 use Prim.Native.Nat.{ℕ}
-use mathlib.Core.List.{List}
+use mathlib.Core.List.{[], _∷_}
 use Rattle.arith.specs.Words.{wordOf, further, back}
 use Rattle.arith.specs.declared.Byte.{Byte}
 use Rattle.insn.specs.Grid.{operandOf}
@@ -13,35 +13,35 @@ use Rattle.insn.specs.declared.Place.{Place}
 use Rattle.insn.specs.declared.Place.the-variants as place
 use Rattle.insn.specs.declared.Pointer.{Pointer}
 use Rattle.insn.specs.declared.Pointer.the-variants as pointer
-use Rattle.machine.specs.Answers.{With, keeping}
-use Rattle.machine.specs.Memory.{byteAt, stored}
+use Rattle.machine.specs.Memory.{Memory, byteAt, store}
+use Rattle.machine.specs.Answers.{Storing, storing, storeless}
 use Rattle.machine.specs.State.{regOf, withReg, withF, hlOf, setHl}
 use Rattle.machine.specs.declared.Cpu.{Cpu}
 
 -- the value of an operand
-unfoldable pub valueOf : Operand → Cpu → List ℕ → ℕ
+unfoldable pub valueOf : Operand → Cpu → Memory → ℕ
 valueOf (Reg r) s m = regOf r s
 valueOf AtHl s m = byteAt m (hlOf s)
 valueOf (Const v) s m = v
 
 -- the byte in a place
-unfoldable pub heldOf : Place → Cpu → List ℕ → ℕ
+unfoldable pub heldOf : Place → Cpu → Memory → ℕ
 heldOf p s m = valueOf (operandOf p) s m
 
 -- a byte put into a place
-unfoldable pub placedOf : Place → ℕ → Cpu → List ℕ → With Cpu
-placedOf place.B v s m = keeping (withReg reg.B v s) m
-placedOf place.C v s m = keeping (withReg reg.C v s) m
-placedOf place.D v s m = keeping (withReg reg.D v s) m
-placedOf place.E v s m = keeping (withReg reg.E v s) m
-placedOf place.H v s m = keeping (withReg reg.H v s) m
-placedOf place.L v s m = keeping (withReg reg.L v s) m
-placedOf place.AtHl v s m = record { out = s; mem = stored m (hlOf s) v }
-placedOf place.A v s m = keeping (withReg reg.A v s) m
+unfoldable pub placedOf : Place → ℕ → Cpu → Storing Cpu
+placedOf place.B v s = storeless (withReg reg.B v s)
+placedOf place.C v s = storeless (withReg reg.C v s)
+placedOf place.D v s = storeless (withReg reg.D v s)
+placedOf place.E v s = storeless (withReg reg.E v s)
+placedOf place.H v s = storeless (withReg reg.H v s)
+placedOf place.L v s = storeless (withReg reg.L v s)
+placedOf place.AtHl v s = storing s (store (hlOf s) v ∷ [])
+placedOf place.A v s = storeless (withReg reg.A v s)
 
 -- a result put back into its place, with its F
-unfoldable pub updatedOf : Place → Byte → Cpu → List ℕ → With Cpu
-updatedOf p r s m = placedOf p (r .value) (withF (r .flags) s) m
+unfoldable pub updatedOf : Place → Byte → Cpu → Storing Cpu
+updatedOf p r s = placedOf p (r .value) (withF (r .flags) s)
 
 -- [BC] [DE] [HLI] [HLD]: the address, and the state after, where HLI moves HL one on and HLD one back
 unfoldable pub pointedOf : Pointer → Cpu → ℕ

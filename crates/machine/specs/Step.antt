@@ -1,34 +1,57 @@
--- One step: the refusals in their order, then the three rules. Document 01, "Refusal numbers" and "One step".
+-- One step in three parts: the refusals in their order, the three rules, and what follows where the step is accepted.
+-- Document 01, "Refusal numbers" and "One step".
 -- Assumes nothing.
 use Prim.Native.Nat.{ℕ, _+_, _%_}
-use mathlib.Core.Bool.{Bool, true, false, _&&_}
-use mathlib.Core.List.{List}
-use lib.Dec.{eqb, ltb}
+use mathlib.Core.Bool.{Bool, true, false, not, _&&_}
+use mathlib.Core.List.{List, [], _∷_, _++_}
+use lib.Dec.{eqb}
 use lib.ListN.{length}
+use Rattle.arith.specs.Refusals.{Refusal, _when_, codeOf, unlessRefused}
 use Rattle.arith.specs.Words.{further}
 use Rattle.insn.specs.Grid.{decodeOf}
-use Rattle.insn.specs.Shapes.{shapeOf}
+use Rattle.insn.specs.Shapes.{shapeOf, isUndefined}
 use Rattle.insn.specs.declared.Insn.{Insn}
-use Rattle.machine.specs.Answers.{With, keeping}
+use Rattle.machine.specs.Memory.{Memory, memorySize, byteAt, wordAt, Store, made}
+use Rattle.machine.specs.Answers.{With, keeping, Storing, storeless}
 use Rattle.machine.specs.State.{withPc, withIme, withMode}
-use Rattle.machine.specs.Memory.{byteAt, wordAt, pendingOf}
+use Rattle.machine.specs.Modes.{isHalted, isStopped, settledIme}
+use Rattle.machine.specs.Interrupts.{pendingOf, lowestOf, dispatchDueOf, dispatchOf}
 use Rattle.machine.specs.Execute.{execOf}
-use Rattle.machine.specs.Interrupts.{lowestOf, dispatchDueOf, dispatchOf}
 use Rattle.machine.specs.declared.Ime.{Ime}
-use Rattle.machine.specs.declared.Ime.the-variants.{Off, Arming, On}
 use Rattle.machine.specs.declared.Mode.{Mode}
 use Rattle.machine.specs.declared.Mode.the-variants.{Running, Repeat, Halted, Stopped}
 use Rattle.machine.specs.declared.Cpu.{Cpu}
 use Rattle.machine.specs.declared.Done.{Done}
 use Rattle.machine.specs.declared.Stepped.{Stepped}
 
--- a refused step answers its number, 0 cycles and the state it was given, and changes nothing
-abbrev pub refusing : ℕ → Cpu → List ℕ → With Stepped
-refusing n s m = keeping (record { code = n; cycles = 0; cpu = s }) m
+-- a step's answer: its code, its cycles, the state and the memory
+abbrev pub stepped : ℕ → ℕ → Cpu → Memory → With Stepped
+stepped code cycles s m = keeping (record { code = code; cycles = cycles; cpu = s }) m
 
--- an accepted step of k cycles
-abbrev pub accepting : ℕ → With Cpu → With Stepped
-accepting k w = record { out = record { code = 0; cycles = k; cpu = w .out }; mem = w .mem }
+-- a refused step answers its number, 0 cycles and the state it was given, and changes nothing
+abbrev pub refusing : ℕ → Cpu → Memory → With Stepped
+refusing n s m = stepped n 0 s m
+
+-- what a step does: its cycles, the state after it, and its stores in their order
+pub record Act : Type 0 where
+  pub cycles : ℕ
+  pub cpu : Cpu
+  pub stores : List Store
+
+abbrev pub act : ℕ → Storing Cpu → Act
+act k w = record { cycles = k; cpu = w .out; stores = w .stores }
+
+-- what follows an accepted step, the one end of all three rules: its stores are made
+abbrev pub accepting : Act → Memory → With Stepped
+accepting a m = stepped 0 (a .cycles) (a .cpu) (made (a .stores) m)
+
+-- rule 1: IME On and a request pending
+unfoldable pub dispatches : Cpu → Memory → Bool
+dispatches s m = dispatchDueOf (s .ime) (pendingOf m)
+
+-- rule 2: Halted and nothing pending
+unfoldable pub idles : Cpu → Memory → Bool
+idles s m = isHalted (s .mode) && eqb (pendingOf m) 0
 
 -- where the bytes after the first lie: in Repeat the first byte read does not move PC
 unfoldable pub pastFirst : Mode → ℕ → ℕ
@@ -37,84 +60,67 @@ pastFirst Repeat pc = pc
 pastFirst Halted pc = further 1 pc
 pastFirst Stopped pc = further 1 pc
 
--- the instruction at PC
-unfoldable pub insnAt : ℕ → ℕ → List ℕ → Insn
-insnAt first rest m = decodeOf (byteAt m first) (byteAt m rest) (wordAt m rest)
+unfoldable pub nextRest : Cpu → ℕ
+nextRest s = pastFirst (s .mode) (s .pc)
+
+-- rule 3: the instruction at PC, and the address after it
+unfoldable pub nextInsn : Cpu → Memory → Insn
+nextInsn s m = decodeOf (byteAt m (s .pc)) (byteAt m (nextRest s)) (wordAt m (nextRest s))
+
+unfoldable pub nextAfter : Cpu → Memory → ℕ
+nextAfter s m = further (shapeOf (nextInsn s m) .more) (nextRest s)
 
 -- the state in which an instruction runs: PC past all its bytes, the mode Running
 unfoldable pub readyOf : ℕ → Cpu → Cpu
 readyOf after s = withPc after (withMode Running s)
 
--- IME at the end of an instruction: Arming at its start is On, unless the instruction is DI, the one that leaves it Off
-unfoldable pub settledIme : Ime → Ime → Ime
-settledIme Off now = now
-settledIme Arming Off = Off
-settledIme Arming Arming = On
-settledIme Arming On = On
-settledIme On now = now
-
 -- the end of an instruction that costs k cycles where nothing is taken
-unfoldable pub endOf : ℕ → Ime → Done → Stepped
-endOf k start d =
-    record { code = 0; cycles = k + d .extra; cpu = withIme (settledIme start (d .cpu .ime)) (d .cpu) }
+unfoldable pub endOf : ℕ → Ime → Storing Done → Act
+endOf k start w =
+    record {
+      cycles = k + w .out .extra;
+      cpu = withIme (settledIme start (w .out .cpu .ime)) (w .out .cpu);
+      stores = w .stores;
+    }
 
-unfoldable pub finishedOf : ℕ → Ime → With Done → With Stepped
-finishedOf k start w = record { out = endOf k start (w .out); mem = w .mem }
+unfoldable pub insnAct : Cpu → Memory → Act
+insnAct s m = endOf (shapeOf (nextInsn s m) .cycles) (s .ime) (execOf (nextInsn s m) (readyOf (nextAfter s m) s) m)
 
--- rule 3; refusal 4 where the opcode is undefined, which is to have no cycles
-unfoldable pub definedStep : Bool → Insn → ℕ → Cpu → List ℕ → With Stepped
-definedStep true i rest s m =
-    finishedOf (shapeOf i .cycles) (s .ime) (execOf i (readyOf (further (shapeOf i .more) rest) s) m)
-definedStep false i rest s m = refusing 4 s m
+-- the rules: a dispatch of the lowest request in 5 cycles; else 1 cycle in which nothing changes; else the instruction
+unfoldable pub ruleBy : Bool → Bool → Cpu → Memory → Act
+ruleBy true idle s m = act 5 (dispatchOf (lowestOf (pendingOf m)) s m)
+ruleBy false true s m = act 1 (storeless s)
+ruleBy false false s m = insnAct s m
 
-unfoldable pub insnStep : Insn → ℕ → Cpu → List ℕ → With Stepped
-insnStep i rest s m = definedStep (ltb 0 (shapeOf i .cycles)) i rest s m
+unfoldable pub ruleOf : Cpu → Memory → Act
+ruleOf s m = ruleBy (dispatches s m) (idles s m) s m
 
-unfoldable pub instructionStep : Cpu → List ℕ → With Stepped
-instructionStep s m = insnStep (insnAt (s .pc) (pastFirst (s .mode) (s .pc)) m) (pastFirst (s .mode) (s .pc)) s m
+-- of the input, by a step and a run alike
+unfoldable pub inputRefusals : Cpu → Memory → List Refusal
+inputRefusals s m =
+    1 when not (eqb (length m) memorySize)
+    ∷ 2 when not (eqb (s .f % 16) 0)
+    ∷ []
 
--- rule 2: Halted and nothing pending, 1 cycle and nothing changes
-unfoldable pub isHalted : Mode → Bool
-isHalted Running = false
-isHalted Repeat = false
-isHalted Halted = true
-isHalted Stopped = false
+-- of a step that is due
+unfoldable pub dueRefusals : Cpu → Memory → List Refusal
+dueRefusals s m =
+    3 when isStopped (s .mode)
+    ∷ 4 when (not (dispatches s m) && not (idles s m) && isUndefined (nextInsn s m))
+    ∷ []
 
-unfoldable pub idleStep : Bool → Cpu → List ℕ → With Stepped
-idleStep true s m = accepting 1 (keeping s m)
-idleStep false s m = instructionStep s m
+-- an accepted step, unless something is refused
+abbrev pub stepUnless : List Refusal → Act → Cpu → Memory → With Stepped
+stepUnless rs a s m = unlessRefused (codeOf rs) (λ _. accepting a m) (λ n. refusing n s m)
 
--- rule 1: IME On and a request pending, the dispatch of the lowest, 5 cycles
-unfoldable pub dispatchStep : Bool → ℕ → Cpu → List ℕ → With Stepped
-dispatchStep true p s m = accepting 5 (dispatchOf (lowestOf p) s m)
-dispatchStep false p s m = idleStep (isHalted (s .mode) && eqb p 0) s m
+-- order: 1, 2, 3, 4
+unfoldable pub stepRefusals : Cpu → Memory → List Refusal
+stepRefusals s m = inputRefusals s m ++ dueRefusals s m
 
-unfoldable pub pendingStep : ℕ → Cpu → List ℕ → With Stepped
-pendingStep p s m = dispatchStep (dispatchDueOf (s .ime) p) p s m
+unfoldable pub stepOf : Cpu → Memory → With Stepped
+stepOf s m = stepUnless (stepRefusals s m) (ruleOf s m) s m
 
--- refusals 1, 2 and 3, in their order
-unfoldable pub isStopped : Mode → Bool
-isStopped Running = false
-isStopped Repeat = false
-isStopped Halted = false
-isStopped Stopped = true
-
-unfoldable pub stoppedStep : Bool → Cpu → List ℕ → With Stepped
-stoppedStep true s m = refusing 3 s m
-stoppedStep false s m = pendingStep (pendingOf m) s m
-
-unfoldable pub flagsStep : Bool → Cpu → List ℕ → With Stepped
-flagsStep true s m = stoppedStep (isStopped (s .mode)) s m
-flagsStep false s m = refusing 2 s m
-
-unfoldable pub lengthStep : Bool → Cpu → List ℕ → With Stepped
-lengthStep true s m = flagsStep (eqb (s .f % 16) 0) s m
-lengthStep false s m = refusing 1 s m
-
-unfoldable pub stepOf : Cpu → List ℕ → With Stepped
-stepOf s m = lengthStep (eqb (length m) 65536) s m
-
--- opens the stages of a step in a proof
+-- opens the parts of a step in a proof
 unfoldable pub flow : Unit {0}
-unfolding pastFirst insnAt readyOf settledIme endOf finishedOf definedStep insnStep instructionStep isHalted idleStep dispatchStep pendingStep isStopped stoppedStep flagsStep lengthStep stepOf
+unfolding isHalted isStopped settledIme dispatches idles pastFirst nextRest nextInsn nextAfter readyOf endOf insnAct ruleBy ruleOf inputRefusals dueRefusals stepRefusals stepOf
 flow = tt

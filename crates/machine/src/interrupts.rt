@@ -8,7 +8,7 @@ use arith::bytes;
 ghost use mathlib.Core.Path.{_≡_};
 ghost use Prim.Native.Nat.{_≤_};
 ghost use lib.ListN.{length};
-ghost use Rattle.machine.specs.Answers.{Gives};
+ghost use Rattle.machine.specs.Answers.{Gives, making};
 ghost use Rattle.machine.specs.Interrupts.{lowestOf, dispatchDueOf, vectoredOf, dispatchOf};
 
 // The lowest of the five requests that is set.
@@ -51,7 +51,7 @@ impl Cpu {
     pub(crate) fn dispatch(self, k: u8, mem: &mut [u8]) -> Cpu
         requires { ⌜ length (now mem) ≡ 65536 ⌝ }
         requires { ⌜ k ≤ 4 ⌝ }
-        ensures { λ r. ⌜ Gives (dispatchOf k self (now (mem .entry))) r (now (mem .exit)) ⌝ }
+        ensures { λ r. ⌜ Gives (making (dispatchOf k self (now (mem .entry))) (now (mem .entry))) r (now (mem .exit)) ⌝ }
     {
         let pc = self.pc;
         let requests = memory::read(&*mem, 0xFF0F);

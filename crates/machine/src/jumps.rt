@@ -7,7 +7,7 @@ use insn::Cond;
 ghost use mathlib.Core.Path.{_≡_};
 ghost use lib.ListN.{length};
 ghost use Rattle.arith.specs.Words.{offsetOf};
-ghost use Rattle.machine.specs.Answers.{Gives};
+ghost use Rattle.machine.specs.Answers.{Gives, making};
 ghost use Rattle.machine.specs.Execute.{jumpedIf, calledIf, returnedIf};
 ghost use Rattle.machine.specs.Memory.{wordAt};
 ghost use Rattle.machine.specs.Stack.{returnedTo};
@@ -53,7 +53,7 @@ impl Cpu {
     // A taken one costs 3 more.
     pub(crate) fn call_if(self, cc: Cond, to: u16, mem: &mut [u8]) -> Done
         requires { ⌜ length (now mem) ≡ 65536 ⌝ }
-        ensures { λ r. ⌜ Gives (calledIf (metOf cc (self .f)) to self (now (mem .entry))) r (now (mem .exit)) ⌝ }
+        ensures { λ r. ⌜ Gives (making (calledIf (metOf cc (self .f)) to self) (now (mem .entry))) r (now (mem .exit)) ⌝ }
     {
         if self.met(cc) {
             Done {

@@ -9,9 +9,9 @@ use insn::Stacked;
 ghost use mathlib.Core.Path.{_≡_};
 ghost use lib.ListN.{length};
 ghost use Rattle.arith.specs.Words.{further};
-ghost use Rattle.machine.specs.Answers.{Gives};
-ghost use Rattle.machine.specs.Execute.{storedAtOf, loadedFrom, highAddress, hlFromSpOf};
-ghost use Rattle.machine.specs.Memory.{stored, wordAt, storedWord};
+ghost use Rattle.machine.specs.Answers.{Gives, storing, making};
+ghost use Rattle.machine.specs.Execute.{storedTo, storedAtOf, loadedFrom, highAddress, hlFromSpOf};
+ghost use Rattle.machine.specs.Memory.{wordAt, wordStores};
 ghost use Rattle.machine.specs.Operands.{valueOf, placedOf, pointedOf, movedOf};
 ghost use Rattle.machine.specs.Stack.{pushedOf};
 ghost use Rattle.machine.specs.State.{withSp, hlOf, stackedOf, withStacked};
@@ -26,7 +26,7 @@ pub(crate) fn high(n: u8) -> u16
 impl Cpu {
     pub(crate) fn load(self, p: Place, o: Operand, mem: &mut [u8]) -> Cpu
         requires { ⌜ length (now mem) ≡ 65536 ⌝ }
-        ensures { λ r. ⌜ Gives (placedOf p (valueOf o self (now (mem .entry))) self (now (mem .entry))) r (now (mem .exit)) ⌝ }
+        ensures { λ r. ⌜ Gives (making (placedOf p (valueOf o self (now (mem .entry))) self) (now (mem .entry))) r (now (mem .exit)) ⌝ }
     {
         let v = self.value(o, &*mem);
         self.place(p, v, mem)
@@ -35,7 +35,7 @@ impl Cpu {
     // A stored through a pointer.
     pub(crate) fn store_at(self, p: Pointer, mem: &mut [u8]) -> Cpu
         requires { ⌜ length (now mem) ≡ 65536 ⌝ }
-        ensures { λ r. ⌜ Gives (storedAtOf p self (now (mem .entry))) r (now (mem .exit)) ⌝ }
+        ensures { λ r. ⌜ Gives (making (storedAtOf p self) (now (mem .entry))) r (now (mem .exit)) ⌝ }
     {
         memory::store(mem, self.pointed(p), self.a);
         self.moved(p)
@@ -44,7 +44,7 @@ impl Cpu {
     // A stored at an address.
     pub(crate) fn store_a(self, at: u16, mem: &mut [u8]) -> Cpu
         requires { ⌜ length (now mem) ≡ 65536 ⌝ }
-        ensures { λ r. ⌜ Gives (record { out = self; mem = stored (now (mem .entry)) at (self .a) }) r (now (mem .exit)) ⌝ }
+        ensures { λ r. ⌜ Gives (making (storedTo at self) (now (mem .entry))) r (now (mem .exit)) ⌝ }
     {
         memory::store(mem, at, self.a);
         Cpu { ..self }
@@ -53,7 +53,7 @@ impl Cpu {
     // SP stored at an address, low byte first.
     pub(crate) fn store_sp(self, at: u16, mem: &mut [u8]) -> Cpu
         requires { ⌜ length (now mem) ≡ 65536 ⌝ }
-        ensures { λ r. ⌜ Gives (record { out = self; mem = storedWord (now (mem .entry)) at (self .sp) }) r (now (mem .exit)) ⌝ }
+        ensures { λ r. ⌜ Gives (making (storing self (wordStores at (self .sp))) (now (mem .entry))) r (now (mem .exit)) ⌝ }
     {
         memory::store_word(mem, at, self.sp);
         Cpu { ..self }
@@ -99,7 +99,7 @@ impl Cpu {
 
     pub(crate) fn push_pair(self, p: Stacked, mem: &mut [u8]) -> Cpu
         requires { ⌜ length (now mem) ≡ 65536 ⌝ }
-        ensures { λ r. ⌜ Gives (pushedOf (stackedOf p self) self (now (mem .entry))) r (now (mem .exit)) ⌝ }
+        ensures { λ r. ⌜ Gives (making (pushedOf (stackedOf p self) self) (now (mem .entry))) r (now (mem .exit)) ⌝ }
     {
         self.push(self.stacked(p), mem)
     }

@@ -18,7 +18,7 @@ ghost use Rattle.arith.specs.Decimal.{decimalOf};
 ghost use Rattle.arith.specs.Flags.{cOf};
 ghost use Rattle.arith.specs.Rotates.{rotationOf, rotationAOf};
 ghost use Rattle.arith.specs.Words.{further, back};
-ghost use Rattle.machine.specs.Answers.{Gives};
+ghost use Rattle.machine.specs.Answers.{Gives, making};
 ghost use Rattle.machine.specs.Execute.{resultOf, addedToHlOf, addedToSpOf, complementedOf, withCarryOf};
 ghost use Rattle.machine.specs.Operands.{valueOf, heldOf, placedOf, updatedOf};
 ghost use Rattle.machine.specs.State.{withF, pairOf, withPair};
@@ -33,7 +33,7 @@ impl Cpu {
 
     pub(crate) fn increase(self, p: Place, mem: &mut [u8]) -> Cpu
         requires { ⌜ length (now mem) ≡ 65536 ⌝ }
-        ensures { λ r. ⌜ Gives (updatedOf p (increasedOf (heldOf p self (now (mem .entry))) (self .f)) self (now (mem .entry))) r (now (mem .exit)) ⌝ }
+        ensures { λ r. ⌜ Gives (making (updatedOf p (increasedOf (heldOf p self (now (mem .entry))) (self .f)) self) (now (mem .entry))) r (now (mem .exit)) ⌝ }
     {
         let v = self.held(p, &*mem);
         self.update(p, bytes::increase(v, self.f), mem)
@@ -41,7 +41,7 @@ impl Cpu {
 
     pub(crate) fn decrease(self, p: Place, mem: &mut [u8]) -> Cpu
         requires { ⌜ length (now mem) ≡ 65536 ⌝ }
-        ensures { λ r. ⌜ Gives (updatedOf p (decreasedOf (heldOf p self (now (mem .entry))) (self .f)) self (now (mem .entry))) r (now (mem .exit)) ⌝ }
+        ensures { λ r. ⌜ Gives (making (updatedOf p (decreasedOf (heldOf p self (now (mem .entry))) (self .f)) self) (now (mem .entry))) r (now (mem .exit)) ⌝ }
     {
         let v = self.held(p, &*mem);
         self.update(p, bytes::decrease(v, self.f), mem)
@@ -49,7 +49,7 @@ impl Cpu {
 
     pub(crate) fn rotate(self, op: Rot, p: Place, mem: &mut [u8]) -> Cpu
         requires { ⌜ length (now mem) ≡ 65536 ⌝ }
-        ensures { λ r. ⌜ Gives (updatedOf p (rotationOf op (heldOf p self (now (mem .entry))) (cOf (self .f))) self (now (mem .entry))) r (now (mem .exit)) ⌝ }
+        ensures { λ r. ⌜ Gives (making (updatedOf p (rotationOf op (heldOf p self (now (mem .entry))) (cOf (self .f))) self) (now (mem .entry))) r (now (mem .exit)) ⌝ }
     {
         let v = self.held(p, &*mem);
         self.update(p, rotates::rotate(op, v, flags::carry(self.f)), mem)
@@ -57,7 +57,7 @@ impl Cpu {
 
     pub(crate) fn reset(self, k: u8, p: Place, mem: &mut [u8]) -> Cpu
         requires { ⌜ length (now mem) ≡ 65536 ⌝ }
-        ensures { λ r. ⌜ Gives (placedOf p (resetOf k (heldOf p self (now (mem .entry)))) self (now (mem .entry))) r (now (mem .exit)) ⌝ }
+        ensures { λ r. ⌜ Gives (making (placedOf p (resetOf k (heldOf p self (now (mem .entry)))) self) (now (mem .entry))) r (now (mem .exit)) ⌝ }
     {
         let v = self.held(p, &*mem);
         self.place(p, bytes::reset(k, v), mem)
@@ -65,7 +65,7 @@ impl Cpu {
 
     pub(crate) fn set(self, k: u8, p: Place, mem: &mut [u8]) -> Cpu
         requires { ⌜ length (now mem) ≡ 65536 ⌝ }
-        ensures { λ r. ⌜ Gives (placedOf p (setOf k (heldOf p self (now (mem .entry)))) self (now (mem .entry))) r (now (mem .exit)) ⌝ }
+        ensures { λ r. ⌜ Gives (making (placedOf p (setOf k (heldOf p self (now (mem .entry)))) self) (now (mem .entry))) r (now (mem .exit)) ⌝ }
     {
         let v = self.held(p, &*mem);
         self.place(p, bytes::set(k, v), mem)

@@ -2,7 +2,8 @@
 use arith::words;
 ghost use mathlib.Core.Path.{_≡_};
 ghost use lib.ListN.{length};
-ghost use Rattle.machine.specs.Memory.{byteAt, stored, wordAt, storedWord, pendingOf};
+ghost use Rattle.machine.specs.Interrupts.{pendingOf};
+ghost use Rattle.machine.specs.Memory.{byteAt, stored, wordAt, wordStores, made};
 
 pub(crate) fn read(mem: &[u8], at: u16) -> u8
     requires { ⌜ length (now mem) ≡ 65536 ⌝ }
@@ -30,7 +31,7 @@ pub(crate) fn read_word(mem: &[u8], at: u16) -> u16
 
 pub(crate) fn store_word(mem: &mut [u8], at: u16, w: u16)
     requires { ⌜ length (now mem) ≡ 65536 ⌝ }
-    ensures { λ _. ⌜ now (mem .exit) ≡ storedWord (now (mem .entry)) at w ⌝ }
+    ensures { λ _. ⌜ now (mem .exit) ≡ made (wordStores at w) (now (mem .entry)) ⌝ }
 {
     store(mem, at, words::low(w));
     store(mem, words::on(1, at), words::high(w));

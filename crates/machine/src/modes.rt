@@ -5,10 +5,9 @@ use crate::Mode;
 use crate::memory;
 ghost use mathlib.Core.Path.{_≡_};
 ghost use lib.ListN.{length};
-ghost use Rattle.machine.specs.Execute.{armedOf, isOff, haltMode, haltedOf};
-ghost use Rattle.machine.specs.Interrupts.{isOn};
+ghost use Rattle.machine.specs.Execute.{haltMode, haltedOf};
+ghost use Rattle.machine.specs.Modes.{isOff, isOn, isHalted, isStopped, armedOf, settledIme};
 ghost use Rattle.machine.specs.State.{withIme};
-ghost use Rattle.machine.specs.Step.{isHalted, isStopped, settledIme};
 
 // EI: Off becomes Arming.
 fn armed(ime: Ime) -> Ime

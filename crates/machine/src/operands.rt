@@ -10,7 +10,7 @@ use insn::Register;
 ghost use mathlib.Core.Path.{_≡_};
 ghost use lib.ListN.{length};
 ghost use Rattle.insn.specs.Grid.{operandOf};
-ghost use Rattle.machine.specs.Answers.{Gives};
+ghost use Rattle.machine.specs.Answers.{Gives, making};
 ghost use Rattle.machine.specs.Operands.{valueOf, heldOf, placedOf, updatedOf, pointedOf, movedOf};
 
 // A place as an operand.
@@ -52,7 +52,7 @@ impl Cpu {
     // A byte put into a place.
     pub(crate) fn place(self, p: Place, v: u8, mem: &mut [u8]) -> Cpu
         requires { ⌜ length (now mem) ≡ 65536 ⌝ }
-        ensures { λ r. ⌜ Gives (placedOf p v self (now (mem .entry))) r (now (mem .exit)) ⌝ }
+        ensures { λ r. ⌜ Gives (making (placedOf p v self) (now (mem .entry))) r (now (mem .exit)) ⌝ }
     {
         match p {
             Place::B => self.with_register(Register::B, v),
@@ -72,7 +72,7 @@ impl Cpu {
     // A result put back into its place, with its F.
     pub(crate) fn update(self, p: Place, r: Byte, mem: &mut [u8]) -> Cpu
         requires { ⌜ length (now mem) ≡ 65536 ⌝ }
-        ensures { λ n. ⌜ Gives (updatedOf p r self (now (mem .entry))) n (now (mem .exit)) ⌝ }
+        ensures { λ n. ⌜ Gives (making (updatedOf p r self) (now (mem .entry))) n (now (mem .exit)) ⌝ }
     {
         self.with_f(r.flags).place(p, r.value, mem)
     }

@@ -4,14 +4,14 @@ use crate::memory;
 use arith::words;
 ghost use mathlib.Core.Path.{_≡_};
 ghost use lib.ListN.{length};
-ghost use Rattle.machine.specs.Answers.{Gives};
+ghost use Rattle.machine.specs.Answers.{Gives, making};
 ghost use Rattle.machine.specs.Stack.{pushedOf, returnedTo, calledOf};
 
 impl Cpu {
     // The high byte goes one below SP, the low byte one below that.
     pub(crate) fn push(self, w: u16, mem: &mut [u8]) -> Cpu
         requires { ⌜ length (now mem) ≡ 65536 ⌝ }
-        ensures { λ r. ⌜ Gives (pushedOf w self (now (mem .entry))) r (now (mem .exit)) ⌝ }
+        ensures { λ r. ⌜ Gives (making (pushedOf w self) (now (mem .entry))) r (now (mem .exit)) ⌝ }
     {
         let sp = self.sp;
         let below = words::back_by(2, sp);
@@ -22,7 +22,7 @@ impl Cpu {
 
     pub(crate) fn call(self, to: u16, mem: &mut [u8]) -> Cpu
         requires { ⌜ length (now mem) ≡ 65536 ⌝ }
-        ensures { λ r. ⌜ Gives (calledOf to self (now (mem .entry))) r (now (mem .exit)) ⌝ }
+        ensures { λ r. ⌜ Gives (making (calledOf to self) (now (mem .entry))) r (now (mem .exit)) ⌝ }
     {
         let pc = self.pc;
         self.with_pc(to).push(pc, mem)

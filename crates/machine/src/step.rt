@@ -10,12 +10,16 @@ use crate::modes;
 use arith::words;
 use insn::decode;
 ghost use mathlib.Core.Bool.{true};
+ghost use mathlib.Core.List.{[], _∷_};
 ghost use mathlib.Core.Path.{_≡_};
 ghost use Prim.Native.Nat.{_+_, _≤_};
 ghost use lib.ListN.{length};
+ghost use Rattle.arith.specs.Refusals.{_when_};
+ghost use Rattle.insn.specs.Shapes.{isUndefined};
 ghost use Rattle.machine.specs.Answers.{Gives};
+ghost use Rattle.machine.specs.Modes.{settledIme};
 ghost use Rattle.machine.specs.State.{withIme};
-ghost use Rattle.machine.specs.Step.{pastFirst, insnAt, readyOf, settledIme, insnStep, isStopped, stoppedStep};
+ghost use Rattle.machine.specs.Step.{pastFirst, nextRest, nextInsn, readyOf, insnAct, ruleOf, dueRefusals, stepUnless};
 ghost use Rattle.machine.specs.declared.Ime.the-variants.{Off};
 ghost use Rattle.machine.specs.declared.Mode.the-variants.{Running};
 
@@ -87,8 +91,9 @@ impl Cpu {
     // that leaves it alone ends with: Arming has become On.
     fn instruction(self, rest: u16, ime: Ime, mem: &mut [u8]) -> Stepped
         requires { ⌜ length (now mem) ≡ 65536 ⌝ }
+        requires { ⌜ rest ≡ nextRest self ⌝ }
         requires { ⌜ ime ≡ settledIme (self .ime) (self .ime) ⌝ }
-        ensures { λ r. ⌜ Gives (insnStep (insnAt (self .pc) rest (now (mem .entry))) rest self (now (mem .entry))) r (now (mem .exit)) ⌝ }
+        ensures { λ r. ⌜ Gives (stepUnless (4 when isUndefined (nextInsn self (now (mem .entry))) ∷ []) (insnAct self (now (mem .entry))) self (now (mem .entry))) r (now (mem .exit)) ⌝ }
     {
         let op = memory::read(&*mem, self.pc);
         let n8 = memory::read(&*mem, rest);
@@ -108,7 +113,7 @@ impl Cpu {
     // The idle step, refusal 3, the dispatch or the instruction.
     pub(crate) fn step_once(self, mem: &mut [u8]) -> Stepped
         requires { ⌜ length (now mem) ≡ 65536 ⌝ }
-        ensures { λ r. ⌜ Gives (stoppedStep (isStopped (self .mode)) self (now (mem .entry))) r (now (mem .exit)) ⌝ }
+        ensures { λ r. ⌜ Gives (stepUnless (dueRefusals self (now (mem .entry))) (ruleOf self (now (mem .entry))) self (now (mem .entry))) r (now (mem .exit)) ⌝ }
     {
         let mode = self.mode;
         let mut ime = self.ime;

@@ -5,18 +5,14 @@ use mathlib.Core.List.{List}
 use mathlib.Core.Path.{_≡_, _∙_}
 use native.Mathlib.Nat.{zero-add, suc-add, add-assoc}
 use Rattle.machine.specs.Answers.{With}
-use Rattle.machine.specs.Step.{accepting, stepOf}
+use Rattle.machine.specs.Step.{stepped, stepOf}
 use Rattle.machine.specs.declared.Cpu.{Cpu}
 use Rattle.machine.specs.declared.Stepped.{Stepped}
 use Rattle.routines.specs.Steps.{dearer, oneMore, moreSteps, after}
 
--- a state with a memory
-abbrev pub both : Cpu → List ℕ → With Cpu
-both s m = record { out = s; mem = m }
-
 -- k steps, all accepted, in j cycles, from one state and memory to another, whatever was spent before
 pub record Takes (k j : ℕ) (s : Cpu) (m : List ℕ) (s′ : Cpu) (m′ : List ℕ) : Type 0 where
-  pub run : (t : ℕ) → moreSteps k (accepting t (both s m)) ≡ accepting (t + j) (both s′ m′)
+  pub run : (t : ℕ) → moreSteps k (stepped 0 t s m) ≡ stepped 0 (t + j) s′ m′
 
 more-steps : (k k′ : ℕ) (w : With Stepped) → moreSteps (k + k′) w ≡ moreSteps k′ (moreSteps k w)
 unfolding moreSteps
@@ -24,7 +20,7 @@ more-steps zero k′ w = rw zero-add
 more-steps (suc k) k′ w = rw suc-add (more-steps k k′ (oneMore (w .out .code) w))
 
 -- one step
-pub one : {s s′ : Cpu} {m m′ : List ℕ} {j : ℕ} → stepOf s m ≡ accepting j (both s′ m′) → Takes 1 j s m s′ m′
+pub one : {s s′ : Cpu} {m m′ : List ℕ} {j : ℕ} → stepOf s m ≡ stepped 0 j s′ m′ → Takes 1 j s m s′ m′
 unfolding moreSteps oneMore dearer
 one e = record { run = λ t. rw e }
 
@@ -41,6 +37,6 @@ pub recount : {k j k′ j′ : ℕ} {s s′ : Cpu} {m m′ : List ℕ} → k ≡
 recount e g t = rw (← e, ← g) t
 
 -- from the first step on
-pub taken : {k j : ℕ} {s s′ : Cpu} {m m′ : List ℕ} → Takes k j s m s′ m′ → after k s m ≡ accepting j (both s′ m′)
+pub taken : {k j : ℕ} {s s′ : Cpu} {m m′ : List ℕ} → Takes k j s m s′ m′ → after k s m ≡ stepped 0 j s′ m′
 unfolding after
 taken {j = j} t = rw zero-add at (t .run 0)

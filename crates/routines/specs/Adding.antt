@@ -8,7 +8,7 @@ use lib.Dec.{leb}
 use lib.ListN.{length}
 use Rattle.arith.specs.Words.{highOf, lowOf, further}
 use Rattle.machine.specs.Memory.{byteAt, wordAt}
-use Rattle.machine.specs.Step.{accepting}
+use Rattle.machine.specs.Step.{stepped}
 use Rattle.machine.specs.declared.Cpu.{Cpu}
 use Rattle.routines.specs.Decimals.{Digits, num}
 use Rattle.routines.specs.Steps.{after}
@@ -27,7 +27,7 @@ pub record Added (n : ℕ) (s : Cpu) (m : List ℕ) (dst src : ℕ) : Type 0 whe
   -- the state and the memory after 7n + 2 steps, none refused, in 13n + 4 cycles
   pub cpu : Cpu
   pub mem : List ℕ
-  pub ran : after (7 * n + 2) s m ≡ accepting (13 * n + 4) (record { out = cpu; mem = mem })
+  pub ran : after (7 * n + 2) s m ≡ stepped 0 (13 * n + 4) cpu mem
   -- the destination holds the sum modulo 100 to the power n, as digits
   pub sum : num mem dst n ≡ (num m dst n + num m src n) % 100 ^ n
   pub digits : Digits mem dst n

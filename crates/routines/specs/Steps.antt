@@ -2,15 +2,14 @@
 -- Assumes nothing.
 use Prim.Native.Nat.{ℕ, zero, suc, _+_}
 use mathlib.Core.List.{List}
-use Rattle.machine.specs.Answers.{With, keeping}
-use Rattle.machine.specs.Step.{accepting, stepOf}
+use Rattle.machine.specs.Answers.{With}
+use Rattle.machine.specs.Step.{stepped, stepOf}
 use Rattle.machine.specs.declared.Cpu.{Cpu}
 use Rattle.machine.specs.declared.Stepped.{Stepped}
 
 -- a step's answer, with the cycles k of the steps before it
 unfoldable pub dearer : ℕ → With Stepped → With Stepped
-dearer k w =
-    record { out = record { code = w .out .code; cycles = k + w .out .cycles; cpu = w .out .cpu }; mem = w .mem }
+dearer k w = stepped (w .out .code) (k + w .out .cycles) (w .out .cpu) (w .mem)
 
 -- one step more, unless the last was refused: the first number is its code
 unfoldable pub oneMore : ℕ → With Stepped → With Stepped
@@ -23,4 +22,4 @@ moreSteps (suc k) w = moreSteps k (oneMore (w .out .code) w)
 
 -- k steps in a row. Its code is 0 exactly if none of them is refused
 unfoldable pub after : ℕ → Cpu → List ℕ → With Stepped
-after k s m = moreSteps k (accepting 0 (keeping s m))
+after k s m = moreSteps k (stepped 0 0 s m)

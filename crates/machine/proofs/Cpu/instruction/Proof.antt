@@ -2,9 +2,11 @@
 use mathlib.Core.Path.{_≡_, _∙_, ap}
 use borrow.Author.Needs.{needs}
 use native.Mathlib.Omega.{arith}
+use Rattle.arith.specs.Words.{further}
 use Rattle.insn.specs.Shapes.{decodedOf}
 use Rattle.machine.specs.Memory.{byteAt, wordAt}
-use Rattle.machine.specs.Step.{settledIme, endOf, finishedOf}
+use Rattle.machine.specs.Modes.{settledIme}
+use Rattle.machine.specs.Step.{nextRest, endOf}
 use Rattle.machine.specs.declared.Done.{Done}
 use Rattle.machine.proofs.Costs.{cycles-most}
 use Rattle.machine.proofs.Fetch.{undefined-here, runs-here, cycles-told}
@@ -17,14 +19,16 @@ start c = c .before .before .before .before .before .before .before .before
 
 -- what was decoded is what lies at PC and from rest on
 fetched : (c : tie.After-decode)
-    → c .decode .result
-    ≡ decodedOf (byteAt (start c .args .mem .now) (start c .args .self .pc)) (byteAt (start c .args .mem .now) (start c .args .rest))
-    (wordAt (start c .args .mem .now) (start c .args .rest))
+    → (let a = start c .args in
+    c .decode .result
+    ≡ decodedOf (byteAt (a .mem .now) (a .self .pc)) (byteAt (a .mem .now) (nextRest (a .self)))
+    (wordAt (a .mem .now) (nextRest (a .self))))
 fetched c =
     rw (
       c .before .read-word .ensures,
       c .before .before .before .read2 .ensures,
       c .before .before .before .before .before .read .ensures,
+      start c .pre .1 .0,
     )
     at (c .decode .ensures)
 
@@ -33,7 +37,7 @@ returns c =
     let f = c .before .before in
     let a = start f .args in
     rw (
-      undefined-here (a .self) (a .mem .now) (a .rest) (f .decode .result) (fetched f) (c .before .if1 .taken),
+      undefined-here (a .self) (a .mem .now) (f .decode .result) (fetched f) (c .before .if1 .taken),
       c .refuse .ensures,
     )
     exactly
@@ -47,24 +51,25 @@ end-requires c κs =
       arith,
       ap (λ (d : Done). d .extra) (x .execute .ensures .answers),
       cycles-most (f .decode .result .insn) (x .before .before .ready .result) (a .mem .now),
-      cycles-told (a .self) (a .mem .now) (a .rest) (f .decode .result) (fetched f),
+      cycles-told (a .self) (a .mem .now) (f .decode .result) (fetched f),
     )
 
 returns-2 : tie.Need-returns-2
-unfolding settledIme endOf finishedOf
+unfolding settledIme endOf
 returns-2 c =
     let x = c .before .before .before in
     let f = x .before .before .before .before .before in
     let a = start f .args in
+    let on = x .before .before .before .on .ensures ∙ ap (further (f .decode .result .more)) (start f .pre .1 .0) in
     rw
-    (runs-here (a .self) (a .mem .now) (a .rest) (f .decode .result) (fetched f) (a .ime) (start f .pre .1)
+    (runs-here (a .self) (a .mem .now) (f .decode .result) (fetched f) (a .ime) (start f .pre .1 .1)
     (x .before .before .before .before .if1 .left))
     (rw (
       c .end .ensures,
       x .execute .ensures .answers,
       x .execute .ensures .leaves,
       x .before .before .ready .ensures,
-      x .before .before .before .on .ensures,
+      on,
     )
     exactly)
 

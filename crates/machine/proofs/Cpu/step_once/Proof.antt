@@ -5,12 +5,12 @@ use mathlib.Core.Path.{_≡_, sym, _∙_}
 use borrow.Author.Needs.{needs}
 use borrow.Author.Tests.{not-false}
 use lib.Dec.{eqb}
-use Rattle.machine.specs.Interrupts.{dispatchDueOf}
-use Rattle.machine.specs.Memory.{pendingOf}
-use Rattle.machine.specs.Step.{insnAt, settledIme, insnStep, isHalted, isStopped}
+use Rattle.machine.specs.Interrupts.{pendingOf, dispatchDueOf}
+use Rattle.machine.specs.Modes.{settledIme, isHalted, isStopped}
+use Rattle.machine.specs.Step.{nextRest}
 use Rattle.machine.proofs.Gives.{exactly}
 use Rattle.machine.proofs.Rules.{ruled}
-use Rattle.machine.proofs.Stages.{stage-stopped, stage-dispatch, stage-idle, stage-insn, stage-quiet}
+use Rattle.machine.proofs.Stages.{instructed, stage-stopped, stage-dispatch, stage-idle, stage-insn, quiet-rest, stage-quiet}
 use Rattle.machine.proofs.Cpu.step_once.Statement.{statement}
 use Rattle.machine.proofs.Cpu.step_once.Tie as tie
 
@@ -50,32 +50,32 @@ returns-3 c =
 abbrev start : tie.Joined1 → tie.Start
 start c = c .before .before .before .before
 
--- quiet or not, IME is settled, and the step is the instruction, its other bytes from rest on
+-- quiet or not, IME is settled, rest is where the other bytes lie, and the step is the instruction
 carried : (c : tie.Joined1)
-    → (c .if1 .ime ≡ settledIme (start c .args .self .ime) (start c .args .self .ime))
-    × (ruled (start c .args .self) (start c .args .mem .now)
-    ≡ insnStep (insnAt (start c .args .self .pc) (c .if1 .rest) (start c .args .mem .now)) (c .if1 .rest) (start c .args .self)
-    (start c .args .mem .now))
-unfolding settledIme
+    → (let a = start c .args in
+    (c .if1 .ime ≡ settledIme (a .self .ime) (a .self .ime)) × (c .if1 .rest ≡ nextRest (a .self))
+    × (ruled (a .self) (a .mem .now) ≡ instructed (a .self) (a .mem .now)))
+unfolding settledIme nextRest
 carried c =
     let a = start c .args in
     ⊎-elim
     (λ w. (
       w .11 ∙ w .10 .ensures,
-      stage-insn (a .self) (a .mem .now) (c .if1 .rest) (w .12 ∙ w .9 .ensures) (sym (w .5 .ensures) ∙ w .6 .left)
+      w .12 ∙ w .9 .ensures,
+      stage-insn (a .self) (a .mem .now) (sym (w .5 .ensures) ∙ w .6 .left)
           (rw (← (w .2 .ensures)) (sym (w .7 .ensures) ∙ w .8 .left))
           (rw (← (w .2 .ensures), ← (w .3 .ensures)) (w .4 .left)),
     ))
     (λ w.
     let q = c .before .quiet .ensures (not-false _ (w .0 .left)) in
-    (w .1 ∙ rw (q .1), stage-quiet (a .self) (a .mem .now) (c .if1 .rest) (w .2 ∙ c .before .before .on .ensures) (q .0) (q .1)))
+    (w .1 ∙ rw (q .1), w .2 ∙ c .before .before .on .ensures ∙ quiet-rest (a .self) (a .mem .now) (q .0), stage-quiet (a .self) (a .mem .now) (q .0) (q .1)))
     (c .if1 .came)
 
 instruction-requires : tie.Need-instruction-requires
-instruction-requires c κs = (search needs, carried (c .before) .0)
+instruction-requires c κs = let k = carried (c .before) in (search needs, (k .1, k .0))
 
 returns-4 : tie.Need-returns-4
-returns-4 c = rw (carried (c .before .before .before .before) .1) (c .before .before .instruction .ensures)
+returns-4 c = rw (carried (c .before .before .before .before) .2) (c .before .before .instruction .ensures)
 
 pub step-once-spec : {M : Type 1} → statement M
 step-once-spec =

@@ -1,6 +1,6 @@
 -- `pending` meets its contract.
 use borrow.Author.Needs.{needs}
-use Rattle.machine.specs.Memory.{pendingOf}
+use Rattle.machine.specs.Interrupts.{pendingOf}
 use Rattle.machine.proofs.memory.pending.Statement.{statement}
 use Rattle.machine.proofs.memory.pending.Tie as tie
 

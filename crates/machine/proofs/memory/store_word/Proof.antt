@@ -1,11 +1,11 @@
 -- `store_word` meets its contract.
 use borrow.Author.Needs.{needs}
-use Rattle.machine.specs.Memory.{storedWord}
+use Rattle.machine.specs.Memory.{wordStores}
 use Rattle.machine.proofs.memory.store_word.Statement.{statement}
 use Rattle.machine.proofs.memory.store_word.Tie as tie
 
 returns : tie.Need-returns
-unfolding storedWord
+unfolding wordStores
 returns c = simp (c .before .before .store2 .ensures, c .before .before .before .high .ensures, c .before .before .before .before .on .ensures, c .before .before .before .before .before .before .before .before .store .ensures, c .before .before .before .before .before .before .before .before .before .low .ensures)
 
 pub store-word-spec : {M : Type 1} → statement M

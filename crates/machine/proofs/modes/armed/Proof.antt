@@ -1,6 +1,6 @@
 -- `armed` meets its contract.
 use borrow.Author.Needs.{needs}
-use Rattle.machine.specs.Execute.{armedOf}
+use Rattle.machine.specs.Modes.{armedOf}
 use Rattle.machine.proofs.modes.armed.Statement.{statement}
 use Rattle.machine.proofs.modes.armed.Tie as tie
 

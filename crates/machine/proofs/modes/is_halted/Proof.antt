@@ -1,6 +1,6 @@
 -- `is_halted` meets its contract.
 use borrow.Author.Needs.{needs}
-use Rattle.machine.specs.Step.{isHalted}
+use Rattle.machine.specs.Modes.{isHalted}
 use Rattle.machine.proofs.modes.is_halted.Statement.{statement}
 use Rattle.machine.proofs.modes.is_halted.Tie as tie
 

@@ -1,6 +1,6 @@
 -- `is_off` meets its contract.
 use borrow.Author.Needs.{needs}
-use Rattle.machine.specs.Execute.{isOff}
+use Rattle.machine.specs.Modes.{isOff}
 use Rattle.machine.proofs.modes.is_off.Statement.{statement}
 use Rattle.machine.proofs.modes.is_off.Tie as tie
 

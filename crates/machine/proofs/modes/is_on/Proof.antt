@@ -1,6 +1,6 @@
 -- `is_on` meets its contract.
 use borrow.Author.Needs.{needs}
-use Rattle.machine.specs.Interrupts.{isOn}
+use Rattle.machine.specs.Modes.{isOn}
 use Rattle.machine.proofs.modes.is_on.Statement.{statement}
 use Rattle.machine.proofs.modes.is_on.Tie as tie
 

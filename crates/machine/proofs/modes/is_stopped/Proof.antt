@@ -1,6 +1,6 @@
 -- `is_stopped` meets its contract.
 use borrow.Author.Needs.{needs}
-use Rattle.machine.specs.Step.{isStopped}
+use Rattle.machine.specs.Modes.{isStopped}
 use Rattle.machine.proofs.modes.is_stopped.Statement.{statement}
 use Rattle.machine.proofs.modes.is_stopped.Tie as tie
 

@@ -1,6 +1,6 @@
 -- `settled` meets its contract.
 use borrow.Author.Needs.{needs}
-use Rattle.machine.specs.Step.{settledIme}
+use Rattle.machine.specs.Modes.{settledIme}
 use Rattle.machine.proofs.modes.settled.Statement.{statement}
 use Rattle.machine.proofs.modes.settled.Tie as tie
 

@@ -11,7 +11,7 @@ use Rattle.machine.specs.declared.Cpu.{Cpu}
 use Rattle.machine.specs.declared.Stepped.{Stepped}
 use Rattle.machine.proofs.Costs.{ruled-paid}
 use Rattle.machine.proofs.Gives.{exactly}
-use Rattle.machine.proofs.Keeps.{ruled-length, ruled-low}
+use Rattle.machine.proofs.Keeps.{ruled-low}
 use Rattle.machine.proofs.Refused.{ruled-unmoved}
 use Rattle.machine.proofs.Rules.{ruled}
 use Rattle.machine.proofs.Turns.{turn-taken, turn-refused, turns-over}
