@@ -1,17 +1,16 @@
 -- Laws about the definitions, for the crates above: what an instruction can take, which bytes are none, what lies past the table.
 -- Assumes nothing.
-use Prim.Native.Nat.{ℕ, _≤_, _<_}
+use Prim.Native.Nat.{ℕ, _+_, _≤_, _<_}
 use mathlib.Core.Path.{_≡_, _∙_, refl, ap}
 use mathlib.Core.Bool.{Bool, true, false, _||_}
 use mathlib.Core.List.{List, [], _∷_}
 use mathlib.Core.Logic.{_⊎_, inl, inr, ⊎-elim}
 use native.Mathlib.Omega.{arith}
 use lib.Dec.{eqb}
-use borrow.Author.Tests.{eqb-true, le-ltb}
+use borrow.Author.Tests.{eqb-true, ne-eqb, le-ltb}
 use Rattle.insn.specs.Grid.{grid, operandOf, decodeOf, prefixedOf}
 use Rattle.insn.specs.Shapes.{Shape, shapes, accessOf, carriedOf, shapeOf, isUndefined}
 use Rattle.insn.specs.Table.{rows, rowOf, lengthOf, untakenOf}
-use Rattle.insn.specs.declared.Cond.{Cond}
 use Rattle.insn.specs.declared.Operand.{Operand}
 use Rattle.insn.specs.declared.Operand.the-variants.{Reg, AtHl, Const}
 use Rattle.insn.specs.declared.Insn.{Insn}
@@ -30,9 +29,9 @@ carried-most (Reg r) = omega arith
 carried-most AtHl = omega arith
 carried-most (Const v) = omega arith
 
--- at most two bytes after the first, and one to six cycles
+-- one to three bytes, and one to six cycles, those of a taken branch among them
 abbrev Fair : Shape → Type 0
-Fair s = (s .more ≤ 2) × (1 ≤ s .cycles) × (s .cycles ≤ 6)
+Fair s = (1 ≤ s .length) × (s .length ≤ 3) × (1 ≤ s .cycles) × (s .cycles + s .taken ≤ 6)
 
 fair : (i : Insn) → (i ≡ Undefined) ⊎ Fair (shapeOf i)
 unfolding shapeOf
@@ -85,41 +84,35 @@ fair (Call w) = inr (omega arith)
 fair (Rst n) = inr (omega arith)
 fair Undefined = inl refl
 
-pub cycles-most : (i : Insn) → shapeOf i .cycles ≤ 6
+pub cycles-most : (i : Insn) → shapeOf i .cycles + shapeOf i .taken ≤ 6
 unfolding shapeOf
-cycles-most i = ⊎-elim (λ e. rw e (omega arith)) (λ f. f .2) (fair i)
+cycles-most i = ⊎-elim (λ e. rw e (omega arith)) (λ f. f .3) (fair i)
 
-pub more-most : (i : Insn) → shapeOf i .more ≤ 2
+pub length-most : (i : Insn) → shapeOf i .length ≤ 3
 unfolding shapeOf
-more-most i = ⊎-elim (λ e. rw e (omega arith)) (λ f. f .0) (fair i)
+length-most i = ⊎-elim (λ e. rw e (omega arith)) (λ f. f .1) (fair i)
 
 -- what has no cycles is undefined, and what is undefined has none
 pub no-cycles : (i : Insn) → shapeOf i .cycles ≡ 0 → i ≡ Undefined
-no-cycles i z = ⊎-elim (λ e. e) (λ f. absurd (omega (arith, f .1, z))) (fair i)
+no-cycles i z = ⊎-elim (λ e. e) (λ f. absurd (omega (arith, f .2, z))) (fair i)
 
 pub undefined-cycles : shapeOf Undefined .cycles ≡ 0
 unfolding shapeOf
 undefined-cycles = refl
 
+pub undefined-length : shapeOf Undefined .length ≡ 0
+unfolding shapeOf
+undefined-length = refl
+
 pub some-cycles : (i : Insn) → (i ≡ Undefined → ⊥) → 1 ≤ shapeOf i .cycles
-some-cycles i d = ⊎-elim (λ e. absurd (d e)) (λ f. f .1) (fair i)
+some-cycles i d = ⊎-elim (λ e. absurd (d e)) (λ f. f .2) (fair i)
 
--- the four that cost more where their branch is taken
-pub jr-if-cycles : (cc : Cond) (e : ℕ) → shapeOf (JrIf cc e) .cycles ≡ 2
-unfolding shapeOf
-jr-if-cycles cc e = refl
-
-pub jump-if-cycles : (cc : Cond) (w : ℕ) → shapeOf (JumpIf cc w) .cycles ≡ 3
-unfolding shapeOf
-jump-if-cycles cc w = refl
-
-pub call-if-cycles : (cc : Cond) (w : ℕ) → shapeOf (CallIf cc w) .cycles ≡ 3
-unfolding shapeOf
-call-if-cycles cc w = refl
-
-pub ret-if-cycles : (cc : Cond) → shapeOf (RetIf cc) .cycles ≡ 2
-unfolding shapeOf
-ret-if-cycles cc = refl
+-- to have no length is to have no cycles
+pub undefined-is : (i : Insn) → isUndefined i ≡ eqb (shapeOf i .cycles) 0
+undefined-is i =
+    ⊎-elim (λ e. rw e (unfold shapeOf in refl))
+    (λ f. rw (ne-eqb (shapeOf i .length) 0 (omega (arith, f .0)), ne-eqb (shapeOf i .cycles) 0 (omega (arith, f .2))))
+    (fair i)
 
 -- the eleven bytes that are no instruction
 abbrev pub undefinedBytes : List ℕ
@@ -153,7 +146,7 @@ row-above k h = rw (le-ltb k 256 (omega arith), le-ltb k 512 h)
 
 pub length-above : (k : ℕ) → 512 ≤ k → lengthOf k ≡ 0
 unfolding lengthOf
-length-above k h = rw (row-above k h) (unfold shapes rows in refl)
+length-above k h = ap (λ (i : Insn). shapeOf i .length) (row-above k h) ∙ undefined-length
 
 pub untaken-above : (k : ℕ) → 512 ≤ k → untakenOf k ≡ 0
 unfolding untakenOf

@@ -115,12 +115,13 @@ x3Of y z p q n w =
     ∷ []
     )
 
--- the grid, by the byte's x, y, z, p and q
-unfoldable pub gridOf : ℕ → ℕ → ℕ → ℕ → ℕ → ℕ → ℕ → ℕ → Insn
-gridOf op x y z p q n w = nth x (x0Of y z p q n w ∷ x1Of op y z ∷ x2Of y z ∷ x3Of y z p q n w ∷ [])
+-- the grid, by the byte's x, y and z; p is y / 2, and q is y mod 2
+unfoldable pub gridOf : ℕ → ℕ → ℕ → ℕ → ℕ → ℕ → Insn
+gridOf op x y z n w =
+    nth x (x0Of y z (y / 2) (y % 2) n w ∷ x1Of op y z ∷ x2Of y z ∷ x3Of y z (y / 2) (y % 2) n w ∷ [])
 
 unfoldable pub decodeOf : ℕ → ℕ → ℕ → Insn
-decodeOf op n w = gridOf op (op / 64) (op / 8 % 8) (op % 8) (op / 16 % 4) (op / 8 % 2) n w
+decodeOf op n w = gridOf op (op / 64) (op / 8 % 8) (op % 8) n w
 
 -- opens the grid in a proof
 unfoldable pub grid : Unit {0}

@@ -1,7 +1,7 @@
 -- Document 01, "The table of 512 rows": rows 0 to 255 unprefixed, 256 to 511 for the byte after $CB. Undefined rows, row $CB
 -- and any row number above 511 give 0 and 0.
 -- Assumes nothing.
-use Prim.Native.Nat.{ℕ, _+_, _-_}
+use Prim.Native.Nat.{ℕ, _-_}
 use mathlib.Core.Bool.{Bool, true, false}
 use lib.Dec.{eqb, ltb}
 use Rattle.insn.specs.Grid.{decodeOf, prefixedOf}
@@ -26,18 +26,13 @@ eitherRow false k = prefixedRow (ltb k 512) k
 unfoldable pub rowOf : ℕ → Insn
 rowOf k = eitherRow (ltb k 256) k
 
--- the first byte counts where there is an instruction at all
-unfoldable pub wholeLength : Bool → ℕ → ℕ
-wholeLength true more = 1 + more
-wholeLength false more = 0
-
 unfoldable pub lengthOf : ℕ → ℕ
-lengthOf k = wholeLength (ltb 0 (shapeOf (rowOf k) .cycles)) (shapeOf (rowOf k) .more)
+lengthOf k = shapeOf (rowOf k) .length
 
 unfoldable pub untakenOf : ℕ → ℕ
 untakenOf k = shapeOf (rowOf k) .cycles
 
 -- opens the table in a proof
 unfoldable pub rows : Unit {0}
-unfolding unprefixedRow prefixedRow eitherRow rowOf wholeLength lengthOf untakenOf
+unfolding unprefixedRow prefixedRow eitherRow rowOf lengthOf untakenOf
 rows = tt

@@ -1,6 +1,7 @@
--- Registers stay below 256, SP and PC below 65,536 and every byte of the memory below 256: a step keeps them so.
+-- What every instruction keeps, one line for each: what it costs beyond its own cycles, the low four bits of F at 0, registers below
+-- 256, SP and PC below 65,536, and at most two stores of bytes below 256. A step keeps state and memory within these bounds.
 -- Assumes nothing.
-use Prim.Native.Nat.{ℕ, _<_, _≤_}
+use Prim.Native.Nat.{ℕ, _-_, _%_, _<_, _≤_}
 use mathlib.Core.Bool.{Bool, true, false}
 use mathlib.Core.List.{List, [], _∷_}
 use mathlib.Core.Path.{_≡_, refl}
@@ -8,9 +9,13 @@ use native.Mathlib.Omega.{arith}
 use borrow.Author.Tests.{eqb-true, eqb-false, leb-true, leb-false}
 use lib.Dec.{eqb, leb}
 use lib.ListN.{length}
+use Rattle.arith.specs.Bytes.{addedOf, subtractedOf, logicOf, comparedOf, aluOf}
 use Rattle.arith.specs.Flags.{zOf, cOf}
+use Rattle.arith.specs.Rotates.{rotationOf, rotationAOf}
+use Rattle.arith.specs.declared.Alu.{Alu}
+use Rattle.arith.specs.declared.Alu.the-variants.{Add, Adc, Sub, Sbc, And, Xor, Or, Cp}
 use Rattle.arith.specs.declared.Byte.{Byte}
-use Rattle.arith.proofs.Laws.{ByteFits, flags-below, high-below, low-below, word-below, further-below, back-below, offset-below, alu-fits, increased-fits, decreased-fits, rotation-fits, rotation-a-fits, decimal-fits, added-hl-fits, added-sp-fits, reset-below, set-below, tested-below}
+use Rattle.arith.proofs.Laws.{ByteFits, flags-low, flags-below, high-below, low-below, word-below, further-below, back-below, offset-below, alu-fits, increased-fits, decreased-fits, rotation-fits, rotation-a-fits, decimal-fits, added-hl-fits, added-sp-fits, reset-below, set-below, tested-low, tested-below}
 use Rattle.insn.specs.Shapes.{shapeOf}
 use Rattle.insn.specs.Grid.{operandOf}
 use Rattle.insn.specs.declared.Register.{Register}
@@ -29,15 +34,17 @@ use Rattle.insn.specs.declared.Insn.{Insn}
 use Rattle.insn.specs.declared.Insn.the-variants.{Nop, StoreSp, Stop, Jr, JrIf, LoadPair, AddHl, StoreAt, LoadAt, IncPair, DecPair, Inc, Dec, Load, RotateA, Daa, Cpl, Scf, Ccf, Halt, Math, RetIf, StoreHigh, AddSp, LoadHigh, LoadHlSp, Pop, Ret, Reti, JumpHl, LoadSpHl, JumpIf, StoreHighC, StoreTo, LoadHighC, LoadFrom, Jump, Rotate, Bit, Res, Set, Di, Ei, CallIf, Push, Call, Rst, Undefined}
 use Rattle.insn.proofs.Sound.{SoundOperand, Sound as SoundInsn, place-sound, decode-sound}
 use Rattle.machine.specs.State.{withF, regOf, withReg, hlOf, setHl, withPair, withStacked}
-use Rattle.machine.specs.Answers.{With}
+use Rattle.machine.specs.Answers.{With, Storing, storing, storeless}
 use Rattle.machine.specs.Memory.{byteAt, wordAt, Store, store, wordStores, stored, made}
 use Rattle.machine.specs.Stack.{pushedOf, returnedTo, calledOf}
 use Rattle.machine.specs.Operands.{valueOf, heldOf, placedOf, updatedOf, movedOf}
-use Rattle.machine.specs.Execute.{execOf, resultOf, addedToHlOf, addedToSpOf, hlFromSpOf, jumpedIf, calledIf, returnedIf, storedTo, storedAtOf, loadedFrom, complementedOf, withCarryOf, haltedOf}
+use Rattle.machine.specs.Execute.{done, plainly, execOf, resultOf, addedToHlOf, addedToSpOf, hlFromSpOf, jumpedIf, calledIf, returnedIf, storedTo, storedAtOf, loadedFrom, complementedOf, withCarryOf, haltedOf}
 use Rattle.machine.specs.Interrupts.{pendingOf, lowestSet, lowestOf, vectoredOf, dispatchOf}
 use Rattle.machine.specs.Step.{act, accepting, nextRest, nextInsn, nextAfter, readyOf, endOf, insnAct, ruleOf, stepRefusals, stepOf}
 use Rattle.machine.specs.declared.Cpu.{Cpu}
+use Rattle.machine.specs.declared.Done.{Done}
 use Rattle.machine.specs.declared.Stepped.{Stepped}
+use Rattle.machine.proofs.Fields.{pair-same, moved-same, placed-same, updated-same, jumped-same, called-same, returned-same}
 use Rattle.machine.proofs.Sound.{Sound, Bytes}
 use Rattle.machine.proofs.ReadOverWrite.{stored-same, stored-other, stored-out}
 use Rattle.machine.proofs.Rules.{by-outcome, by-rules}
@@ -135,71 +142,20 @@ loaded-sound : (at : ℕ) (s : Cpu) (m : List ℕ) → Sound s → Bytes m → S
 unfolding loadedFrom
 loaded-sound at s m h b = omega (arith, b at)
 
-jumped-sound : (t : Bool) (to : ℕ) (s : Cpu) → to < 65536 → Sound s → Sound (jumpedIf t to s .cpu)
+jumped-sound : (k : ℕ) (t : Bool) (to : ℕ) (s : Cpu) → to < 65536 → Sound s → Sound (jumpedIf k t to s .cpu)
 unfolding jumpedIf
-jumped-sound true to s p h = omega arith
-jumped-sound false to s p h = h
+jumped-sound k true to s p h = omega arith
+jumped-sound k false to s p h = h
 
-called-sound : (t : Bool) (to : ℕ) (s : Cpu) → to < 65536 → Sound s → Sound (calledIf t to s .out .cpu)
+called-sound : (k : ℕ) (t : Bool) (to : ℕ) (s : Cpu) → to < 65536 → Sound s → Sound (calledIf k t to s .out .cpu)
 unfolding calledIf calledOf pushedOf
-called-sound true to s p h = omega (arith, back-below 2 (s .sp))
-called-sound false to s p h = h
+called-sound k true to s p h = omega (arith, back-below 2 (s .sp))
+called-sound k false to s p h = h
 
-returned-sound : (t : Bool) (to : ℕ) (s : Cpu) → to < 65536 → Sound s → Sound (returnedIf t to s .cpu)
+returned-sound : (k : ℕ) (t : Bool) (to : ℕ) (s : Cpu) → to < 65536 → Sound s → Sound (returnedIf k t to s .cpu)
 unfolding returnedIf returnedTo
-returned-sound true to s p h = omega (arith, further-below 2 (s .sp))
-returned-sound false to s p h = h
-
-pub exec-sound : (i : Insn) (s : Cpu) (m : List ℕ) → SoundInsn i → Sound s → Bytes m → Sound (execOf i s m .out .cpu)
-unfolding execOf addedToHlOf addedToSpOf hlFromSpOf storedTo storedAtOf complementedOf withCarryOf haltedOf returnedTo calledOf pushedOf
-exec-sound Nop s m i h b = h
-exec-sound (StoreSp w) s m i h b = h
-exec-sound Stop s m i h b = omega arith
-exec-sound (Jr e) s m i h b = omega (arith, offset-below e (s .pc))
-exec-sound (JrIf cc e) s m i h b = jumped-sound _ _ s (offset-below e (s .pc)) h
-exec-sound (LoadPair w rp) s m i h b = pair-sound rp w s i h
-exec-sound (AddHl rp) s m i h b = hl-sound _ _ (flags-sound _ s (added-hl-fits _ _ _ .flags-below) h)
-exec-sound (StoreAt p) s m i h b = moved-sound p s h
-exec-sound (LoadAt p) s m i h b = moved-sound p _ (loaded-sound _ s m h b)
-exec-sound (IncPair rp) s m i h b = pair-sound rp _ s (further-below 1 _) h
-exec-sound (DecPair rp) s m i h b = pair-sound rp _ s (back-below 1 _) h
-exec-sound (Inc q) s m i h b = updated-sound q _ s (increased-fits _ _) h
-exec-sound (Dec q) s m i h b = updated-sound q _ s (decreased-fits _ _) h
-exec-sound (Load q o) s m i h b = placed-sound q _ s (value-below o s m i h b) h
-exec-sound (RotateA r) s m i h b = result-sound _ s (rotation-a-fits r (s .a) _ (h .a)) h
-exec-sound Daa s m i h b = result-sound _ s (decimal-fits (s .a) (s .f)) h
-exec-sound Cpl s m i h b = omega (arith, flags-below (zOf (s .f)) true true (cOf (s .f)))
-exec-sound Scf s m i h b = flags-sound _ s (flags-below _ _ _ _) h
-exec-sound Ccf s m i h b = flags-sound _ s (flags-below _ _ _ _) h
-exec-sound Halt s m i h b = omega arith
-exec-sound (Math op o) s m i h b = result-sound _ s (alu-fits op (s .a) _ (s .f) (h .a) (value-below o s m i h b)) h
-exec-sound (RetIf cc) s m i h b = returned-sound _ _ s (word-at-below m (s .sp) b) h
-exec-sound (StoreHigh n) s m i h b = h
-exec-sound (AddSp e) s m i h b = let r = added-sp-fits (s .sp) e in omega (arith, r .flags-below, r .value-below)
-exec-sound (LoadHigh n) s m i h b = loaded-sound _ s m h b
-exec-sound (LoadHlSp e) s m i h b = hl-sound _ _ (flags-sound _ s (added-sp-fits _ _ .flags-below) h)
-exec-sound (Pop rp) s m i h b = stacked-sound rp _ _ (omega (arith, further-below 2 (s .sp)))
-exec-sound Ret s m i h b = omega (arith, further-below 2 (s .sp), word-at-below m (s .sp) b)
-exec-sound Reti s m i h b = omega (arith, further-below 2 (s .sp), word-at-below m (s .sp) b)
-exec-sound JumpHl s m i h b = omega (arith, hl-below s h)
-exec-sound LoadSpHl s m i h b = omega (arith, hl-below s h)
-exec-sound (JumpIf cc w) s m i h b = jumped-sound _ w s i h
-exec-sound StoreHighC s m i h b = h
-exec-sound (StoreTo w) s m i h b = h
-exec-sound LoadHighC s m i h b = loaded-sound _ s m h b
-exec-sound (LoadFrom w) s m i h b = loaded-sound _ s m h b
-exec-sound (Jump w) s m i h b = omega (arith, i)
-exec-sound (Rotate r q) s m i h b = updated-sound q _ s (rotation-fits r _ _ (held-below q s m h b)) h
-exec-sound (Bit k q) s m i h b = flags-sound _ s (tested-below _ _ _) h
-exec-sound (Res k q) s m i h b = placed-sound q _ s (reset-below k _ (held-below q s m h b)) h
-exec-sound (Set k q) s m i h b = placed-sound q _ s (set-below k _ (held-below q s m h b)) h
-exec-sound Di s m i h b = omega arith
-exec-sound Ei s m i h b = omega arith
-exec-sound (CallIf cc w) s m i h b = called-sound _ w s i h
-exec-sound (Push rp) s m i h b = omega (arith, back-below 2 (s .sp))
-exec-sound (Call w) s m i h b = omega (arith, back-below 2 (s .sp), i)
-exec-sound (Rst v) s m i h b = omega (arith, back-below 2 (s .sp), i)
-exec-sound Undefined s m i h b = h
+returned-sound k true to s p h = omega (arith, further-below 2 (s .sp))
+returned-sound k false to s p h = h
 
 -- what is stored
 
@@ -240,10 +196,10 @@ module _ {i : Insn} {s : Cpu} {m : List ℕ} where
   unfolding pushedOf
   push-stores w t = two (high-below w) (low-below w)
 
-  call-stores : (t : Bool) (to : ℕ) (s′ : Cpu) → Stored i s m (calledIf t to s′ .stores)
+  call-stores : (k : ℕ) (t : Bool) (to : ℕ) (s′ : Cpu) → Stored i s m (calledIf k t to s′ .stores)
   unfolding calledIf calledOf
-  call-stores true to s′ = push-stores _ _
-  call-stores false to s′ = none
+  call-stores k true to s′ = push-stores _ _
+  call-stores k false to s′ = none
 
   place-stores : (q : Place) (v : ℕ) (t : Cpu) → (SoundInsn i → Sound s → Bytes m → v < 256) → Stored i s m (placedOf q v t .stores)
   unfolding placedOf
@@ -256,62 +212,154 @@ module _ {i : Insn} {s : Cpu} {m : List ℕ} where
   place-stores place.AtHl v t p = one p
   place-stores place.A v t p = none
 
-pub exec-stores : (i : Insn) (s : Cpu) (m : List ℕ) → Stored i s m (execOf i s m .stores)
-unfolding execOf wordStores storedTo storedAtOf calledOf updatedOf
-exec-stores Nop s m = none
-exec-stores (StoreSp w) s m = two (low-below (s .sp)) (high-below (s .sp))
-exec-stores Stop s m = none
-exec-stores (Jr e) s m = none
-exec-stores (JrIf cc e) s m = none
-exec-stores (LoadPair w rp) s m = none
-exec-stores (AddHl rp) s m = none
-exec-stores (StoreAt p) s m = one (λ _ h _. h .a)
-exec-stores (LoadAt p) s m = none
-exec-stores (IncPair rp) s m = none
-exec-stores (DecPair rp) s m = none
-exec-stores (Inc q) s m = place-stores q _ _ (λ i h b. increased-fits _ _ .value-below)
-exec-stores (Dec q) s m = place-stores q _ _ (λ i h b. decreased-fits _ _ .value-below)
-exec-stores (Load q o) s m = place-stores q _ _ (λ i h b. value-below o s m i h b)
-exec-stores (RotateA r) s m = none
-exec-stores Daa s m = none
-exec-stores Cpl s m = none
-exec-stores Scf s m = none
-exec-stores Ccf s m = none
-exec-stores Halt s m = none
-exec-stores (Math op o) s m = none
-exec-stores (RetIf cc) s m = none
-exec-stores (StoreHigh n) s m = one (λ _ h _. h .a)
-exec-stores (AddSp e) s m = none
-exec-stores (LoadHigh n) s m = none
-exec-stores (LoadHlSp e) s m = none
-exec-stores (Pop rp) s m = none
-exec-stores Ret s m = none
-exec-stores Reti s m = none
-exec-stores JumpHl s m = none
-exec-stores LoadSpHl s m = none
-exec-stores (JumpIf cc w) s m = none
-exec-stores StoreHighC s m = one (λ _ h _. h .a)
-exec-stores (StoreTo w) s m = one (λ _ h _. h .a)
-exec-stores LoadHighC s m = none
-exec-stores (LoadFrom w) s m = none
-exec-stores (Jump w) s m = none
-exec-stores (Rotate r q) s m = place-stores q _ _ (λ i h b. rotation-fits r _ _ (held-below q s m h b) .value-below)
-exec-stores (Bit k q) s m = none
-exec-stores (Res k q) s m = place-stores q _ _ (λ i h b. reset-below k _ (held-below q s m h b))
-exec-stores (Set k q) s m = place-stores q _ _ (λ i h b. set-below k _ (held-below q s m h b))
-exec-stores Di s m = none
-exec-stores Ei s m = none
-exec-stores (CallIf cc w) s m = call-stores _ w s
-exec-stores (Push rp) s m = push-stores _ s
-exec-stores (Call w) s m = push-stores _ _
-exec-stores (Rst v) s m = push-stores _ _
-exec-stores Undefined s m = none
+-- the low four bits of F
 
-pub exec-few : (i : Insn) (s : Cpu) (m : List ℕ) → length (execOf i s m .stores) ≤ 2
-exec-few i s m = exec-stores i s m .few
+alu-low : (op : Alu) (a b f : ℕ) → aluOf op a b f .flags % 16 ≡ 0
+unfolding aluOf addedOf subtractedOf logicOf comparedOf
+alu-low Add a b f = flags-low _ _ _ _
+alu-low Adc a b f = flags-low _ _ _ _
+alu-low Sub a b f = flags-low _ _ _ _
+alu-low Sbc a b f = flags-low _ _ _ _
+alu-low And a b f = flags-low _ _ _ _
+alu-low Xor a b f = flags-low _ _ _ _
+alu-low Or a b f = flags-low _ _ _ _
+alu-low Cp a b f = flags-low _ _ _ _
+
+same-low : {f g : ℕ} → g ≡ f → f % 16 ≡ 0 → g % 16 ≡ 0
+same-low e p = rw e p
+
+stacked-low : (rp : Stacked) (w : ℕ) (s : Cpu) → s .f % 16 ≡ 0 → withStacked rp w s .f % 16 ≡ 0
+unfolding withStacked setHl
+stacked-low stacked.Bc w s p = p
+stacked-low stacked.De w s p = p
+stacked-low stacked.Hl w s p = p
+stacked-low stacked.Af w s p = omega arith
+
+-- what a taken branch costs more
+
+jumped-most : (k : ℕ) (t : Bool) (to : ℕ) (s : Cpu) → jumpedIf k t to s .extra ≤ k
+unfolding jumpedIf
+jumped-most k true to s = omega arith
+jumped-most k false to s = omega arith
+
+called-most : (k : ℕ) (t : Bool) (to : ℕ) (s : Cpu) → calledIf k t to s .out .extra ≤ k
+unfolding calledIf
+called-most k true to s = omega arith
+called-most k false to s = omega arith
+
+returned-most : (k : ℕ) (t : Bool) (to : ℕ) (s : Cpu) → returnedIf k t to s .extra ≤ k
+unfolding returnedIf
+returned-most k true to s = omega arith
+returned-most k false to s = omega arith
+
+-- what an instruction makes of the state: valid flags stay valid, and what is sound stays sound
+pub record Changed (i : Insn) (s : Cpu) (m : List ℕ) (t : Cpu) : Type 0 where
+  pub low : s .f % 16 ≡ 0 → t .f % 16 ≡ 0
+  pub sound : SoundInsn i → Sound s → Bytes m → Sound t
+
+-- what holds of an instruction that is done: it costs no more than its shape says, and its state and its stores are such
+pub record Executed (i : Insn) (s : Cpu) (m : List ℕ) (w : Storing Done) : Type 0 where
+  pub extra : w .out .extra ≤ shapeOf i .taken
+  pub state : Changed i s m (w .out .cpu)
+  pub stores : Stored i s m (w .stores)
+
+module _ {i : Insn} {s : Cpu} {m : List ℕ} where
+  -- a state with other flags, with the same, and the state itself
+  new : {t : Cpu} → t .f % 16 ≡ 0 → (SoundInsn i → Sound s → Bytes m → Sound t) → Changed i s m t
+  new e h = record { low = λ _. e; sound = h }
+
+  same : {t : Cpu} → t .f ≡ s .f → (SoundInsn i → Sound s → Bytes m → Sound t) → Changed i s m t
+  same e h = record { low = λ p. same-low e p; sound = h }
+
+  kept : Changed i s m s
+  kept = same refl (λ _ h _. h)
+
+  plain : {t : Cpu} → Changed i s m t → Executed i s m (plainly t)
+  plain p = record { extra = omega arith; state = p; stores = none }
+
+  does : {t : Cpu} {xs : List Store} → Changed i s m t → Stored i s m xs → Executed i s m (storing (done t) xs)
+  does p x = record { extra = omega arith; state = p; stores = x }
+
+  jumps : {to : ℕ} (t : Bool) → (SoundInsn i → Sound s → Bytes m → to < 65536)
+      → Executed i s m (storeless (jumpedIf (shapeOf i .taken) t to s))
+  jumps t p =
+      record {
+        extra = jumped-most _ t _ s;
+        state = same (jumped-same _ t _ s) (λ i h b. jumped-sound _ t _ s (p i h b) h);
+        stores = none;
+      }
+
+  returns-to : {to : ℕ} (t : Bool) → (SoundInsn i → Sound s → Bytes m → to < 65536)
+      → Executed i s m (storeless (returnedIf (shapeOf i .taken) t to s))
+  returns-to t p =
+      record {
+        extra = returned-most _ t _ s;
+        state = same (returned-same _ t _ s) (λ i h b. returned-sound _ t _ s (p i h b) h);
+        stores = none;
+      }
+
+  calls : {to : ℕ} (t : Bool) → (SoundInsn i → Sound s → Bytes m → to < 65536) → Executed i s m (calledIf (shapeOf i .taken) t to s)
+  calls t p =
+      record {
+        extra = called-most _ t _ s;
+        state = same (called-same _ t _ s) (λ i h b. called-sound _ t _ s (p i h b) h);
+        stores = call-stores _ t _ s;
+      }
+
+-- every instruction
+pub executed : (i : Insn) (s : Cpu) (m : List ℕ) → Executed i s m (execOf i s m)
+unfolding execOf wordStores resultOf addedToHlOf addedToSpOf hlFromSpOf setHl storedTo storedAtOf loadedFrom complementedOf withCarryOf haltedOf rotationOf rotationAOf returnedTo calledOf pushedOf updatedOf
+executed Nop s m = plain kept
+executed (StoreSp w) s m = does kept (two (low-below (s .sp)) (high-below (s .sp)))
+executed Stop s m = plain (same refl (λ i h b. omega arith))
+executed (Jr e) s m = plain (same refl (λ i h b. omega (arith, offset-below e (s .pc))))
+executed (JrIf cc e) s m = jumps _ (λ i h b. offset-below e (s .pc))
+executed (LoadPair w rp) s m = plain (same (pair-same rp _ _) (λ i h b. pair-sound rp w s i h))
+executed (AddHl rp) s m = plain (new (added-hl-fits _ _ _ .flags-low) (λ i h b. hl-sound _ _ (flags-sound _ s (added-hl-fits _ _ _ .flags-below) h)))
+executed (StoreAt p) s m = does (same (moved-same p _) (λ i h b. moved-sound p s h)) (one (λ _ h _. h .a))
+executed (LoadAt p) s m = plain (same (moved-same p _) (λ i h b. moved-sound p _ (loaded-sound _ s m h b)))
+executed (IncPair rp) s m = plain (same (pair-same rp _ _) (λ i h b. pair-sound rp _ s (further-below 1 _) h))
+executed (DecPair rp) s m = plain (same (pair-same rp _ _) (λ i h b. pair-sound rp _ s (back-below 1 _) h))
+executed (Inc q) s m = does (new (same-low (updated-same q _ s) (increased-fits _ _ .flags-low)) (λ i h b. updated-sound q _ s (increased-fits _ _) h)) (place-stores q _ _ (λ i h b. increased-fits _ _ .value-below))
+executed (Dec q) s m = does (new (same-low (updated-same q _ s) (decreased-fits _ _ .flags-low)) (λ i h b. updated-sound q _ s (decreased-fits _ _) h)) (place-stores q _ _ (λ i h b. decreased-fits _ _ .value-below))
+executed (Load q o) s m = does (same (placed-same _ _ _) (λ i h b. placed-sound q _ s (value-below o s m i h b) h)) (place-stores q _ _ (λ i h b. value-below o s m i h b))
+executed (RotateA r) s m = plain (new (flags-low _ _ _ _) (λ i h b. result-sound _ s (rotation-a-fits r (s .a) _ (h .a)) h))
+executed Daa s m = plain (new (decimal-fits _ _ .flags-low) (λ i h b. result-sound _ s (decimal-fits (s .a) (s .f)) h))
+executed Cpl s m = plain (new (flags-low _ _ _ _) (λ i h b. omega (arith, flags-below (zOf (s .f)) true true (cOf (s .f)))))
+executed Scf s m = plain (new (flags-low _ _ _ _) (λ i h b. flags-sound _ s (flags-below _ _ _ _) h))
+executed Ccf s m = plain (new (flags-low _ _ _ _) (λ i h b. flags-sound _ s (flags-below _ _ _ _) h))
+executed Halt s m = plain (same refl (λ i h b. omega arith))
+executed (Math op o) s m = plain (new (alu-low op _ _ _) (λ i h b. result-sound _ s (alu-fits op (s .a) _ (s .f) (h .a) (value-below o s m i h b)) h))
+executed (RetIf cc) s m = returns-to _ (λ i h b. word-at-below m (s .sp) b)
+executed (StoreHigh n) s m = does kept (one (λ _ h _. h .a))
+executed (AddSp e) s m = plain (new (added-sp-fits _ _ .flags-low) (λ i h b. let r = added-sp-fits (s .sp) e in omega (arith, r .flags-below, r .value-below)))
+executed (LoadHigh n) s m = plain (same refl (λ i h b. loaded-sound _ s m h b))
+executed (LoadHlSp e) s m = plain (new (added-sp-fits _ _ .flags-low) (λ i h b. hl-sound _ _ (flags-sound _ s (added-sp-fits _ _ .flags-below) h)))
+executed (Pop rp) s m = plain (record { low = stacked-low rp _ _; sound = λ i h b. stacked-sound rp _ _ (omega (arith, further-below 2 (s .sp))) })
+executed Ret s m = plain (same refl (λ i h b. omega (arith, further-below 2 (s .sp), word-at-below m (s .sp) b)))
+executed Reti s m = plain (same refl (λ i h b. omega (arith, further-below 2 (s .sp), word-at-below m (s .sp) b)))
+executed JumpHl s m = plain (same refl (λ i h b. omega (arith, hl-below s h)))
+executed LoadSpHl s m = plain (same refl (λ i h b. omega (arith, hl-below s h)))
+executed (JumpIf cc w) s m = jumps _ (λ i h b. i)
+executed StoreHighC s m = does kept (one (λ _ h _. h .a))
+executed (StoreTo w) s m = does kept (one (λ _ h _. h .a))
+executed LoadHighC s m = plain (same refl (λ i h b. loaded-sound _ s m h b))
+executed (LoadFrom w) s m = plain (same refl (λ i h b. loaded-sound _ s m h b))
+executed (Jump w) s m = plain (same refl (λ i h b. omega (arith, i)))
+executed (Rotate r q) s m = does (new (same-low (updated-same q _ s) (flags-low _ _ _ _)) (λ i h b. updated-sound q _ s (rotation-fits r _ _ (held-below q s m h b)) h)) (place-stores q _ _ (λ i h b. rotation-fits r _ _ (held-below q s m h b) .value-below))
+executed (Bit k q) s m = plain (new (tested-low _ _ _) (λ i h b. flags-sound _ s (tested-below _ _ _) h))
+executed (Res k q) s m = does (same (placed-same _ _ _) (λ i h b. placed-sound q _ s (reset-below k _ (held-below q s m h b)) h)) (place-stores q _ _ (λ i h b. reset-below k _ (held-below q s m h b)))
+executed (Set k q) s m = does (same (placed-same _ _ _) (λ i h b. placed-sound q _ s (set-below k _ (held-below q s m h b)) h)) (place-stores q _ _ (λ i h b. set-below k _ (held-below q s m h b)))
+executed Di s m = plain (same refl (λ i h b. omega arith))
+executed Ei s m = plain (same refl (λ i h b. omega arith))
+executed (CallIf cc w) s m = calls _ (λ i h b. i)
+executed (Push rp) s m = does (same refl (λ i h b. omega (arith, back-below 2 (s .sp)))) (push-stores _ s)
+executed (Call w) s m = does (same refl (λ i h b. omega (arith, back-below 2 (s .sp), i))) (push-stores _ s)
+executed (Rst v) s m = does (same refl (λ i h b. omega (arith, back-below 2 (s .sp), i))) (push-stores _ s)
+executed Undefined s m = plain kept
 
 pub exec-bytes : (i : Insn) (s : Cpu) (m : List ℕ) → SoundInsn i → Sound s → Bytes m → Bytes (made (execOf i s m .stores) m)
-exec-bytes i s m k h b = made-bytes (execOf i s m .stores) m (exec-stores i s m .small k h b) b
+exec-bytes i s m k h b = made-bytes (execOf i s m .stores) m (executed i s m .stores .small k h b) b
 
 -- a dispatch
 
@@ -349,12 +397,12 @@ module _ (s : Cpu) (m : List ℕ) (h : Sound s) (b : Bytes m) where
 
   ready-sound : Sound (readyOf (nextAfter s m) s)
   unfolding readyOf nextAfter
-  ready-sound = omega (arith, further-below (shapeOf (nextInsn s m) .more) (nextRest s))
+  ready-sound = omega (arith, further-below (shapeOf (nextInsn s m) .length - 1) (nextRest s))
 
   insn-sound : SoundStep (accepting (insnAct s m) m)
   unfolding insnAct endOf
   insn-sound =
-      let r = exec-sound (nextInsn s m) (readyOf (nextAfter s m) s) m next-sound ready-sound b in
+      let r = executed (nextInsn s m) (readyOf (nextAfter s m) s) m .state .sound next-sound ready-sound b in
       record {
         cpu = omega (arith, r);
         mem = exec-bytes (nextInsn s m) (readyOf (nextAfter s m) s) m next-sound ready-sound b;

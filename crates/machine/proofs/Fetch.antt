@@ -10,6 +10,7 @@ use Rattle.arith.specs.Refusals.{order}
 use Rattle.arith.specs.Words.{further}
 use Rattle.insn.specs.Shapes.{shapeOf, shapedOf, decodedOf}
 use Rattle.insn.specs.declared.Decoded.{Decoded}
+use Rattle.insn.proofs.Laws.{undefined-is}
 use Rattle.machine.specs.Execute.{execOf}
 use Rattle.machine.specs.State.{withIme}
 use Rattle.machine.specs.Memory.{byteAt, wordAt}
@@ -41,12 +42,12 @@ module _ (s : Cpu) (m : List ℕ) (d : Decoded)
 
   pub undefined-here : d .cycles ≡ 0 → instructed s m ≡ refusing 4 s m
   unfolding order
-  undefined-here e = rw (← insn-told, ← cycles-told, e)
+  undefined-here e = rw (← insn-told, undefined-is, ← cycles-told, e)
 
   pub runs-here : (ime : Ime) → ime ≡ settledIme (s .ime) (s .ime) → d .cycles ≢ 0
       → instructed s m
       ≡ accepting (endOf (d .cycles) Off (execOf (d .insn) (withIme ime (readyOf (further (d .more) (nextRest s)) s)) m)) m
   unfolding order readyOf insnAct
   runs-here ime e ne =
-      rw (← insn-told, ← cycles-told, ← more-told, ne-eqb (d .cycles) 0 ne, e)
+      rw (← insn-told, undefined-is, ← cycles-told, ← more-told, ne-eqb (d .cycles) 0 ne, e)
       (ap (λ (a : Act). accepting a m) (settled-first (d .cycles) (d .insn) (readyOf (further (d .more) (nextRest s)) s) m))

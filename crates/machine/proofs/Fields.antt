@@ -70,20 +70,20 @@ pub updated-same : (p : Place) (b : Byte) (s : Cpu) → updatedOf p b s .out .f 
 unfolding updatedOf
 updated-same p b s = placed-same p (b .value) (withF (b .flags) s)
 
-pub jumped-same : (t : Bool) (to : ℕ) (s : Cpu) → jumpedIf t to s .cpu .f ≡ s .f
+pub jumped-same : (k : ℕ) (t : Bool) (to : ℕ) (s : Cpu) → jumpedIf k t to s .cpu .f ≡ s .f
 unfolding jumpedIf
-jumped-same true to s = refl
-jumped-same false to s = refl
+jumped-same k true to s = refl
+jumped-same k false to s = refl
 
-pub called-same : (t : Bool) (to : ℕ) (s : Cpu) → calledIf t to s .out .cpu .f ≡ s .f
+pub called-same : (k : ℕ) (t : Bool) (to : ℕ) (s : Cpu) → calledIf k t to s .out .cpu .f ≡ s .f
 unfolding calledIf calledOf pushedOf
-called-same true to s = refl
-called-same false to s = refl
+called-same k true to s = refl
+called-same k false to s = refl
 
-pub returned-same : (t : Bool) (to : ℕ) (s : Cpu) → returnedIf t to s .cpu .f ≡ s .f
+pub returned-same : (k : ℕ) (t : Bool) (to : ℕ) (s : Cpu) → returnedIf k t to s .cpu .f ≡ s .f
 unfolding returnedIf returnedTo
-returned-same true to s = refl
-returned-same false to s = refl
+returned-same k true to s = refl
+returned-same k false to s = refl
 
 -- IME
 
@@ -176,21 +176,21 @@ module _ (u : Ime) (s : Cpu) where
   moved-left pointer.Hli = refl
   moved-left pointer.Hld = refl
 
-  pub jumped-left : (t : Bool) (to : ℕ) → jumpedIf t to (withIme u s) ≡ imed u (jumpedIf t to s)
+  pub jumped-left : (k : ℕ) (t : Bool) (to : ℕ) → jumpedIf k t to (withIme u s) ≡ imed u (jumpedIf k t to s)
   unfolding jumpedIf
-  jumped-left true to = refl
-  jumped-left false to = refl
+  jumped-left k true to = refl
+  jumped-left k false to = refl
 
-  pub called-left : (t : Bool) (to : ℕ)
-      → calledIf t to (withIme u s) ≡ storing (imed u (calledIf t to s .out)) (calledIf t to s .stores)
+  pub called-left : (k : ℕ) (t : Bool) (to : ℕ)
+      → calledIf k t to (withIme u s) ≡ storing (imed u (calledIf k t to s .out)) (calledIf k t to s .stores)
   unfolding calledIf calledOf pushedOf
-  called-left true to = refl
-  called-left false to = refl
+  called-left k true to = refl
+  called-left k false to = refl
 
-  pub returned-left : (t : Bool) (to : ℕ) → returnedIf t to (withIme u s) ≡ imed u (returnedIf t to s)
+  pub returned-left : (k : ℕ) (t : Bool) (to : ℕ) → returnedIf k t to (withIme u s) ≡ imed u (returnedIf k t to s)
   unfolding returnedIf returnedTo
-  returned-left true to = refl
-  returned-left false to = refl
+  returned-left k true to = refl
+  returned-left k false to = refl
 
 pub updated-left : (u : Ime) (s : Cpu) (p : Place) (b : Byte)
     → updatedOf p b (withIme u s) ≡ storing (withIme u (updatedOf p b s .out)) (updatedOf p b s .stores)

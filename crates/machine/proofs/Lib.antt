@@ -2,12 +2,12 @@
 pub mod Gives
 pub mod ReadOverWrite
 pub mod Fields
+pub mod Sound
 pub mod Rules
 pub mod Refused
+pub mod Bounds
 pub mod Costs
 pub mod Keeps
-pub mod Sound
-pub mod Bounds
 pub mod Stores
 pub mod Arming
 pub mod Runs

@@ -1,17 +1,19 @@
 -- A refused step is the identity, and each number is answered exactly when. Document 01, "Refusal numbers".
 -- Assumes nothing.
 use Prim.Native.Nat.{ℕ, zero, suc, _<_, _≤_}
+use mathlib.Core.Bool.{Bool, true, false, not, _&&_}
 use mathlib.Core.List.{List}
 use mathlib.Core.Logic.{_≢_, _↔_}
 use mathlib.Core.Path.{_≡_, refl, sym, _∙_}
+use borrow.Author.Tests.{eqb-false}
 use native.Mathlib.Omega.{arith}
 use Rattle.arith.specs.Refusals.{Refusal, codeOf, unlessRefused}
 use Rattle.arith.proofs.Refusals.{NoneHolds, First, numberAt, distinct, code-within, refused-none, refused-first}
-use Rattle.insn.specs.Shapes.{isUndefined}
-use Rattle.insn.proofs.Laws.{undefinedBytes, among, undefined-bytes}
+use Rattle.insn.specs.Shapes.{shapeOf, isUndefined}
+use Rattle.insn.proofs.Laws.{undefinedBytes, among, undefined-is, undefined-bytes}
 use Rattle.machine.specs.Answers.{With}
 use Rattle.machine.specs.Memory.{byteAt}
-use Rattle.machine.specs.Step.{Act, refusing, accepting, nextRest, nextInsn, ruleOf, inputRefusals, dueRefusals, stepRefusals, stepUnless, stepOf}
+use Rattle.machine.specs.Step.{Act, refusing, accepting, dispatches, idles, nextRest, nextInsn, endOf, insnAct, ruleBy, ruleOf, inputRefusals, dueRefusals, stepRefusals, stepUnless, stepOf}
 use Rattle.machine.specs.declared.Cpu.{Cpu}
 use Rattle.machine.specs.declared.Stepped.{Stepped}
 use Rattle.machine.proofs.Rules.{ruled, by-outcome}
@@ -84,3 +86,28 @@ module _ (s : Cpu) (m : List ℕ) where
       → isUndefined (nextInsn s m) ≡ among undefinedBytes (byteAt m (s .pc))
   unfolding nextInsn
   undefined-byte p q = undefined-bytes _ _ _ p q
+
+-- an accepted step costs at least one cycle: an instruction that is not refused has some
+
+module _ (s : Cpu) (m : List ℕ) where
+  rule-least : (d i : Bool) → (not d && not i && isUndefined (nextInsn s m)) ≡ false → 1 ≤ ruleBy d i s m .cycles
+  unfolding ruleBy insnAct endOf
+  rule-least true i e = omega arith
+  rule-least false true e = omega arith
+  rule-least false false e = omega (arith, eqb-false (shapeOf (nextInsn s m) .cycles) 0 (sym (undefined-is (nextInsn s m)) ∙ e))
+
+  least-of : (rs : List Refusal) → codeOf rs ≡ 0 → 1 ≤ ruleOf s m .cycles → 1 ≤ stepUnless rs (ruleOf s m) s m .out .cycles
+  unfolding unlessRefused
+  least-of rs e p = rw e p
+
+  pub ruled-least : ruled s m .out .code ≡ 0 → 1 ≤ ruled s m .out .cycles
+  unfolding dueRefusals ruleOf
+  ruled-least e =
+      let none = sym (unless-code (dueRefusals s m) (ruleOf s m) s m) ∙ e in
+      least-of (dueRefusals s m) none (rule-least (dispatches s m) (idles s m) (refused-none (dueRefusals s m) refl .0 none .1 .0))
+
+  pub step-least : stepOf s m .out .code ≡ 0 → 1 ≤ stepOf s m .out .cycles
+  unfolding inputRefusals dueRefusals stepRefusals ruleOf stepOf
+  step-least e =
+      let none = sym (step-code s m) ∙ e in
+      least-of (stepRefusals s m) none (rule-least (dispatches s m) (idles s m) (step-done s m .0 e .1 .1 .1 .0))

@@ -12,7 +12,7 @@ use Rattle.machine.specs.Stack.{pushedOf}
 use Rattle.machine.specs.Interrupts.{dispatchOf}
 use Rattle.machine.specs.Step.{Act, refusing, accepting, nextInsn, nextAfter, readyOf, endOf, insnAct, ruleOf, stepRefusals, stepOf}
 use Rattle.machine.specs.declared.Cpu.{Cpu}
-use Rattle.machine.proofs.Bounds.{exec-few}
+use Rattle.machine.proofs.Bounds.{executed}
 use Rattle.machine.proofs.ReadOverWrite.{Spared, made-other}
 use Rattle.machine.proofs.Rules.{by-rules}
 
@@ -49,7 +49,7 @@ module _ (s : Cpu) (m : List ℕ) where
       record {
         dispatch = omega arith;
         idle = omega arith;
-        insn = le-trans (exec-few (nextInsn s m) (readyOf (nextAfter s m) s) m) (omega arith);
+        insn = le-trans (executed (nextInsn s m) (readyOf (nextAfter s m) s) m .stores .few) (omega arith);
       }
 
   pub step-few : length (storesOf s m) ≤ 3

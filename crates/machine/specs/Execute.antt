@@ -14,6 +14,7 @@ use Rattle.arith.specs.declared.Byte.{Byte}
 use Rattle.insn.specs.declared.Pointer.{Pointer}
 use Rattle.insn.specs.declared.Pair.{Pair}
 use Rattle.insn.specs.Grid.{operandOf}
+use Rattle.insn.specs.Shapes.{shapeOf}
 use Rattle.insn.specs.declared.Insn.{Insn}
 use Rattle.insn.specs.declared.Insn.the-variants.{Nop, StoreSp, Stop, Jr, JrIf, LoadPair, AddHl, StoreAt, LoadAt, IncPair, DecPair, Inc, Dec, Load, RotateA, Daa, Cpl, Scf, Ccf, Halt, Math, RetIf, StoreHigh, AddSp, LoadHigh, LoadHlSp, Pop, Ret, Reti, JumpHl, LoadSpHl, JumpIf, StoreHighC, StoreTo, LoadHighC, LoadFrom, Jump, Rotate, Bit, Res, Set, Di, Ei, CallIf, Push, Call, Rst, Undefined}
 use Rattle.machine.specs.Memory.{Memory, byteAt, wordAt, store, wordStores}
@@ -54,18 +55,18 @@ addedToSpOf e s = withSp (addedSpOf (s .sp) e .value) (withF (addedSpOf (s .sp) 
 unfoldable pub hlFromSpOf : ℕ → Cpu → Cpu
 hlFromSpOf e s = setHl (addedSpOf (s .sp) e .value) (withF (addedSpOf (s .sp) e .flags) s)
 
--- conditional jumps, calls and returns: a taken one costs so much more
-unfoldable pub jumpedIf : Bool → ℕ → Cpu → Done
-jumpedIf true to s = record { cpu = withPc to s; extra = 1 }
-jumpedIf false to s = done s
+-- conditional jumps, calls and returns: a taken one costs k cycles more
+unfoldable pub jumpedIf : ℕ → Bool → ℕ → Cpu → Done
+jumpedIf k true to s = record { cpu = withPc to s; extra = k }
+jumpedIf k false to s = done s
 
-unfoldable pub calledIf : Bool → ℕ → Cpu → Storing Done
-calledIf true to s = storing (record { cpu = calledOf to s .out; extra = 3 }) (calledOf to s .stores)
-calledIf false to s = plainly s
+unfoldable pub calledIf : ℕ → Bool → ℕ → Cpu → Storing Done
+calledIf k true to s = storing (record { cpu = calledOf to s .out; extra = k }) (calledOf to s .stores)
+calledIf k false to s = plainly s
 
-unfoldable pub returnedIf : Bool → ℕ → Cpu → Done
-returnedIf true to s = record { cpu = returnedTo to s; extra = 3 }
-returnedIf false to s = done s
+unfoldable pub returnedIf : ℕ → Bool → ℕ → Cpu → Done
+returnedIf k true to s = record { cpu = returnedTo to s; extra = k }
+returnedIf k false to s = done s
 
 -- A stored at an address, and loaded from one
 unfoldable pub storedTo : ℕ → Cpu → Storing Cpu
@@ -104,7 +105,7 @@ execOf Nop s m = plainly s
 execOf (StoreSp w) s m = doing (storing s (wordStores w (s .sp)))
 execOf Stop s m = plainly (withMode Stopped s)
 execOf (Jr e) s m = plainly (withPc (offsetOf e (s .pc)) s)
-execOf (JrIf cc e) s m = storeless (jumpedIf (metOf cc (s .f)) (offsetOf e (s .pc)) s)
+execOf (JrIf cc e) s m = storeless (jumpedIf (shapeOf (JrIf cc e) .taken) (metOf cc (s .f)) (offsetOf e (s .pc)) s)
 execOf (LoadPair w rp) s m = plainly (withPair rp w s)
 execOf (AddHl rp) s m = plainly (addedToHlOf rp s)
 execOf (StoreAt p) s m = doing (storedAtOf p s)
@@ -121,7 +122,7 @@ execOf Scf s m = plainly (withCarryOf true s)
 execOf Ccf s m = plainly (withCarryOf (not (cOf (s .f))) s)
 execOf Halt s m = plainly (haltedOf s m)
 execOf (Math op o) s m = plainly (resultOf (aluOf op (s .a) (valueOf o s m) (s .f)) s)
-execOf (RetIf cc) s m = storeless (returnedIf (metOf cc (s .f)) (wordAt m (s .sp)) s)
+execOf (RetIf cc) s m = storeless (returnedIf (shapeOf (RetIf cc) .taken) (metOf cc (s .f)) (wordAt m (s .sp)) s)
 execOf (StoreHigh n) s m = doing (storedTo (highAddress n) s)
 execOf (AddSp e) s m = plainly (addedToSpOf e s)
 execOf (LoadHigh n) s m = plainly (loadedFrom (highAddress n) s m)
@@ -131,7 +132,7 @@ execOf Ret s m = plainly (returnedTo (wordAt m (s .sp)) s)
 execOf Reti s m = plainly (withIme On (returnedTo (wordAt m (s .sp)) s))
 execOf JumpHl s m = plainly (withPc (hlOf s) s)
 execOf LoadSpHl s m = plainly (withSp (hlOf s) s)
-execOf (JumpIf cc w) s m = storeless (jumpedIf (metOf cc (s .f)) w s)
+execOf (JumpIf cc w) s m = storeless (jumpedIf (shapeOf (JumpIf cc w) .taken) (metOf cc (s .f)) w s)
 execOf StoreHighC s m = doing (storedTo (highAddress (s .c)) s)
 execOf (StoreTo w) s m = doing (storedTo w s)
 execOf LoadHighC s m = plainly (loadedFrom (highAddress (s .c)) s m)
@@ -143,7 +144,7 @@ execOf (Res k p) s m = doing (placedOf p (resetOf k (heldOf p s m)) s)
 execOf (Set k p) s m = doing (placedOf p (setOf k (heldOf p s m)) s)
 execOf Di s m = plainly (withIme Off s)
 execOf Ei s m = plainly (withIme (armedOf (s .ime)) s)
-execOf (CallIf cc w) s m = calledIf (metOf cc (s .f)) w s
+execOf (CallIf cc w) s m = calledIf (shapeOf (CallIf cc w) .taken) (metOf cc (s .f)) w s
 execOf (Push rp) s m = doing (pushedOf (stackedOf rp s) s)
 execOf (Call w) s m = doing (calledOf w s)
 execOf (Rst v) s m = doing (calledOf v s)

@@ -1,7 +1,7 @@
 -- One step in three parts: the refusals in their order, the three rules, and what follows where the step is accepted.
 -- Document 01, "Refusal numbers" and "One step".
 -- Assumes nothing.
-use Prim.Native.Nat.{ℕ, _+_, _%_}
+use Prim.Native.Nat.{ℕ, _+_, _-_, _%_}
 use mathlib.Core.Bool.{Bool, true, false, not, _&&_}
 use mathlib.Core.List.{List, [], _∷_, _++_}
 use lib.Dec.{eqb}
@@ -68,7 +68,7 @@ unfoldable pub nextInsn : Cpu → Memory → Insn
 nextInsn s m = decodeOf (byteAt m (s .pc)) (byteAt m (nextRest s)) (wordAt m (nextRest s))
 
 unfoldable pub nextAfter : Cpu → Memory → ℕ
-nextAfter s m = further (shapeOf (nextInsn s m) .more) (nextRest s)
+nextAfter s m = further (shapeOf (nextInsn s m) .length - 1) (nextRest s)
 
 -- the state in which an instruction runs: PC past all its bytes, the mode Running
 unfoldable pub readyOf : ℕ → Cpu → Cpu

@@ -29,7 +29,7 @@ impl Cpu {
 
     // A taken one costs 1 more.
     pub(crate) fn jump_if(self, cc: Cond, to: u16) -> Done
-        ensures { λ r. ⌜ r ≡ jumpedIf (metOf cc (self .f)) to self ⌝ }
+        ensures { λ r. ⌜ r ≡ jumpedIf 1 (metOf cc (self .f)) to self ⌝ }
     {
         if self.met(cc) {
             Done {
@@ -45,7 +45,7 @@ impl Cpu {
     }
 
     pub(crate) fn jump_by_if(self, cc: Cond, e: u8) -> Done
-        ensures { λ r. ⌜ r ≡ jumpedIf (metOf cc (self .f)) (offsetOf e (self .pc)) self ⌝ }
+        ensures { λ r. ⌜ r ≡ jumpedIf 1 (metOf cc (self .f)) (offsetOf e (self .pc)) self ⌝ }
     {
         self.jump_if(cc, words::offset(e, self.pc))
     }
@@ -53,7 +53,7 @@ impl Cpu {
     // A taken one costs 3 more.
     pub(crate) fn call_if(self, cc: Cond, to: u16, mem: &mut [u8]) -> Done
         requires { ⌜ length (now mem) ≡ 65536 ⌝ }
-        ensures { λ r. ⌜ Gives (making (calledIf (metOf cc (self .f)) to self) (now (mem .entry))) r (now (mem .exit)) ⌝ }
+        ensures { λ r. ⌜ Gives (making (calledIf 3 (metOf cc (self .f)) to self) (now (mem .entry))) r (now (mem .exit)) ⌝ }
     {
         if self.met(cc) {
             Done {
@@ -78,7 +78,7 @@ impl Cpu {
     // A taken one costs 3 more.
     pub(crate) fn ret_if(self, cc: Cond, mem: &[u8]) -> Done
         requires { ⌜ length (now mem) ≡ 65536 ⌝ }
-        ensures { λ r. ⌜ r ≡ returnedIf (metOf cc (self .f)) (wordAt (now (mem .entry)) (self .sp)) self ⌝ }
+        ensures { λ r. ⌜ r ≡ returnedIf 3 (metOf cc (self .f)) (wordAt (now (mem .entry)) (self .sp)) self ⌝ }
     {
         if self.met(cc) {
             Done {

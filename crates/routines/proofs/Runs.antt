@@ -14,7 +14,7 @@ use Rattle.machine.specs.Step.{stepped, stepOf}
 use Rattle.machine.specs.Run.{ending, whileBelow, afterStep, runFrom, runOf, runs}
 use Rattle.machine.specs.declared.Cpu.{Cpu}
 use Rattle.machine.specs.declared.Stepped.{Stepped}
-use Rattle.machine.proofs.Costs.{step-paid}
+use Rattle.machine.proofs.Refused.{step-least}
 use Rattle.routines.specs.Steps.{dearer, oneMore, moreSteps, after}
 
 -- cycles only grow, and a refused step is the last
@@ -52,7 +52,7 @@ module _ (k turns t steps : ℕ) (s : Cpu) (m : List ℕ) {b cycles : ℕ} {next
       → runFrom (suc turns) b t steps s m ≡ ending 0 b (steps + suc k) s′ m′
   unfolding runFrom whileBelow afterStep unlessRefused
   run-goes zero e g rest =
-      let pays = step-paid s m .least (ap (λ (w : With Stepped). w .out .code) e) in
+      let pays = step-least s m (ap (λ (w : With Stepped). w .out .code) e) in
       let cost = ap (λ (w : With Stepped). w .out .cycles) e in
       let total = ap (λ (w : With Stepped). w .out .cycles) g in
       let grown = grows k (stepped 0 (t + cycles) next mem) in

@@ -5,13 +5,10 @@ use Rattle.machine.specs.Execute.{calledIf}
 use Rattle.machine.proofs.Cpu.call_if.Statement.{statement}
 use Rattle.machine.proofs.Cpu.call_if.Tie as tie
 
-returns : tie.Need-returns
-unfolding calledIf
-returns c = simp (c .before .before .call .ensures .answers, c .before .before .before .before .if1 .taken, ← (c .before .before .before .before .before .met .ensures), c .before .before .call .ensures .leaves) exactly
-
-returns-2 : tie.Need-returns-2
-unfolding calledIf
-returns-2 c = simp (c .if1 .left, ← (c .before .met .ensures)) exactly
-
 pub call-if-spec : {M : Type 1} → statement M
-call-if-spec = tie.close (tie.spec (search needs) (search needs) (search needs) returns returns-2)
+unfolding calledIf
+call-if-spec =
+    tie.close (tie.spec
+    (search needs) (search needs) (search needs)
+    (λ c. simp (c .before .before .call .ensures .answers, c .before .before .before .before .if1 .taken, ← (c .before .before .before .before .before .met .ensures), c .before .before .call .ensures .leaves) exactly)
+    (λ c. simp (c .if1 .left, ← (c .before .met .ensures)) exactly))

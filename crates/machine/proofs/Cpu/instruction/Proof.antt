@@ -8,7 +8,7 @@ use Rattle.machine.specs.Memory.{byteAt, wordAt}
 use Rattle.machine.specs.Modes.{settledIme}
 use Rattle.machine.specs.Step.{nextRest, endOf}
 use Rattle.machine.specs.declared.Done.{Done}
-use Rattle.machine.proofs.Costs.{cycles-most}
+use Rattle.machine.proofs.Costs.{insn-most}
 use Rattle.machine.proofs.Fetch.{undefined-here, runs-here, cycles-told}
 use Rattle.machine.proofs.Gives.{exactly}
 use Rattle.machine.proofs.Cpu.instruction.Statement.{statement}
@@ -50,7 +50,7 @@ end-requires c κs =
     omega (
       arith,
       ap (λ (d : Done). d .extra) (x .execute .ensures .answers),
-      cycles-most (f .decode .result .insn) (x .before .before .ready .result) (a .mem .now),
+      insn-most (f .decode .result .insn) (x .before .before .ready .result) (a .mem .now),
       cycles-told (a .self) (a .mem .now) (f .decode .result) (fetched f),
     )
 

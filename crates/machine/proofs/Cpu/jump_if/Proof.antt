@@ -4,13 +4,10 @@ use Rattle.machine.specs.Execute.{jumpedIf}
 use Rattle.machine.proofs.Cpu.jump_if.Statement.{statement}
 use Rattle.machine.proofs.Cpu.jump_if.Tie as tie
 
-returns : tie.Need-returns
-unfolding jumpedIf
-returns c = simp (c .with-pc .ensures, c .before .if1 .taken, ← (c .before .before .met .ensures))
-
-returns-2 : tie.Need-returns-2
-unfolding jumpedIf
-returns-2 c = simp (c .if1 .left, ← (c .before .met .ensures))
-
 pub jump-if-spec : {M : Type 1} → statement M
-jump-if-spec = tie.close (tie.spec (search needs) (search needs) returns returns-2)
+unfolding jumpedIf
+jump-if-spec =
+    tie.close (tie.spec
+    (search needs) (search needs)
+    (λ c. simp (c .with-pc .ensures, c .before .if1 .taken, ← (c .before .before .met .ensures)))
+    (λ c. simp (c .if1 .left, ← (c .before .met .ensures))))

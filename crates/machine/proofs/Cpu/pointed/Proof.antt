@@ -4,21 +4,12 @@ use Rattle.machine.specs.Operands.{pointedOf}
 use Rattle.machine.proofs.Cpu.pointed.Statement.{statement}
 use Rattle.machine.proofs.Cpu.pointed.Tie as tie
 
-returns : tie.Need-returns
-unfolding pointedOf
-returns c = simp (c .word .ensures, c .before .enum-told .given .1)
-
-returns-2 : tie.Need-returns-2
-unfolding pointedOf
-returns-2 c = simp (c .word2 .ensures, c .before .enum-told2 .given .1)
-
-returns-3 : tie.Need-returns-3
-unfolding pointedOf
-returns-3 c = simp (c .hl .ensures, c .before .enum-told3 .given .1)
-
-returns-4 : tie.Need-returns-4
-unfolding pointedOf
-returns-4 c = simp (c .hl2 .ensures, c .before .enum-told4 .given .1)
-
 pub pointed-spec : {M : Type 1} → statement M
-pointed-spec = tie.close (tie.spec (search needs) (search needs) (search needs) (search needs) (search needs) (search needs) (search needs) (search needs) returns returns-2 returns-3 returns-4)
+unfolding pointedOf
+pointed-spec =
+    tie.close (tie.spec
+    (search needs) (search needs) (search needs) (search needs) (search needs) (search needs) (search needs) (search needs)
+    (λ c. simp (c .word .ensures, c .before .enum-told .given .1))
+    (λ c. simp (c .word2 .ensures, c .before .enum-told2 .given .1))
+    (λ c. simp (c .hl .ensures, c .before .enum-told3 .given .1))
+    (λ c. simp (c .hl2 .ensures, c .before .enum-told4 .given .1)))

@@ -4,17 +4,11 @@ use Rattle.machine.specs.Modes.{isOn}
 use Rattle.machine.proofs.modes.is_on.Statement.{statement}
 use Rattle.machine.proofs.modes.is_on.Tie as tie
 
-returns : tie.Need-returns
-unfolding isOn
-returns c = simp (c .enum-told .given .1)
-
-returns-2 : tie.Need-returns-2
-unfolding isOn
-returns-2 c = simp (c .enum-told2 .given .1)
-
-returns-3 : tie.Need-returns-3
-unfolding isOn
-returns-3 c = simp (c .enum-told3 .given .1)
-
 pub is-on-spec : {M : Type 1} → statement M
-is-on-spec = tie.close (tie.spec (search needs) (search needs) (search needs) returns returns-2 returns-3)
+unfolding isOn
+is-on-spec =
+    tie.close (tie.spec
+    (search needs) (search needs) (search needs)
+    (λ c. simp (c .enum-told .given .1))
+    (λ c. simp (c .enum-told2 .given .1))
+    (λ c. simp (c .enum-told3 .given .1)))
