@@ -1,3 +1,6 @@
+use core::fmt::{self, Display, Formatter};
+use core::str::FromStr;
+
 use crate::link::Block;
 
 /// The state of the processor, all but the memory. The default is the all-zero state: Off and
@@ -27,7 +30,15 @@ pub struct Cpu {
     pub mode: Mode,
 }
 
-/// The interrupt switch.
+/// The interrupt switch. It is displayed as its name, and read from it, in capitals or not.
+///
+/// ```
+/// use trnadulek::Ime;
+///
+/// assert_eq!(Ime::Arming.to_string(), "Arming");
+/// assert_eq!("off".parse(), Ok(Ime::Off));
+/// assert!("enabled".parse::<Ime>().is_err());
+/// ```
 #[derive(Clone, Copy, PartialEq, Eq, Hash, Debug, Default)]
 pub enum Ime {
     /// No request is served.
@@ -39,7 +50,15 @@ pub enum Ime {
     On,
 }
 
-/// What the processor does between two steps.
+/// What the processor does between two steps. It is displayed as its name, and read from it, in
+/// capitals or not.
+///
+/// ```
+/// use trnadulek::Mode;
+///
+/// assert_eq!(Mode::Halted.to_string(), "Halted");
+/// assert_eq!("STOPPED".parse(), Ok(Mode::Stopped));
+/// ```
 #[derive(Clone, Copy, PartialEq, Eq, Hash, Debug, Default)]
 pub enum Mode {
     /// Instruction after instruction.
@@ -54,6 +73,17 @@ pub enum Mode {
 }
 
 impl Ime {
+    /// Every position of the switch, in the order of the codes.
+    pub const ALL: [Ime; 3] = [Ime::Off, Ime::Arming, Ime::On];
+
+    fn name(self) -> &'static str {
+        match self {
+            Ime::Off => "Off",
+            Ime::Arming => "Arming",
+            Ime::On => "On",
+        }
+    }
+
     fn code(self) -> u8 {
         match self {
             Ime::Off => 0,
@@ -72,6 +102,18 @@ impl Ime {
 }
 
 impl Mode {
+    /// Every mode, in the order of the codes.
+    pub const ALL: [Mode; 4] = [Mode::Running, Mode::Repeat, Mode::Halted, Mode::Stopped];
+
+    fn name(self) -> &'static str {
+        match self {
+            Mode::Running => "Running",
+            Mode::Repeat => "Repeat",
+            Mode::Halted => "Halted",
+            Mode::Stopped => "Stopped",
+        }
+    }
+
     fn code(self) -> u8 {
         match self {
             Mode::Running => 0,
@@ -88,6 +130,110 @@ impl Mode {
             2 => Mode::Halted,
             _ => Mode::Stopped,
         }
+    }
+}
+
+impl Display for Ime {
+    fn fmt(&self, out: &mut Formatter<'_>) -> fmt::Result {
+        out.pad(self.name())
+    }
+}
+
+impl Display for Mode {
+    fn fmt(&self, out: &mut Formatter<'_>) -> fmt::Result {
+        out.pad(self.name())
+    }
+}
+
+impl FromStr for Ime {
+    type Err = UnknownName;
+
+    /// # Errors
+    ///
+    /// For any other text than a name.
+    fn from_str(text: &str) -> Result<Self, UnknownName> {
+        let named = |ime: &Ime| ime.name().eq_ignore_ascii_case(text);
+        let found = Ime::ALL.into_iter().find(named);
+        found.ok_or(UnknownName("Off, Arming or On"))
+    }
+}
+
+impl FromStr for Mode {
+    type Err = UnknownName;
+
+    /// # Errors
+    ///
+    /// For any other text than a name.
+    fn from_str(text: &str) -> Result<Self, UnknownName> {
+        let named = |mode: &Mode| mode.name().eq_ignore_ascii_case(text);
+        let found = Mode::ALL.into_iter().find(named);
+        found.ok_or(UnknownName("Running, Repeat, Halted or Stopped"))
+    }
+}
+
+/// A text that is no name of an [`Ime`] or a [`Mode`]. What is displayed has the names.
+///
+/// ```
+/// use trnadulek::Ime;
+///
+/// let error = "enabled".parse::<Ime>().unwrap_err();
+/// assert_eq!(error.to_string(), "the name is not Off, Arming or On");
+/// ```
+#[derive(Clone, Copy, PartialEq, Eq, Hash, Debug)]
+pub struct UnknownName(&'static str);
+
+impl Display for UnknownName {
+    fn fmt(&self, out: &mut Formatter<'_>) -> fmt::Result {
+        write!(out, "the name is not {}", self.0)
+    }
+}
+
+#[cfg(feature = "std")]
+impl std::error::Error for UnknownName {}
+
+/// The register pairs, the first register being the high byte.
+///
+/// ```
+/// use trnadulek::Cpu;
+///
+/// let mut cpu = Cpu { h: 0xC0, l: 0x01, ..Cpu::default() };
+/// assert_eq!(cpu.hl(), 0xC001);
+/// cpu.set_de(0x1234);
+/// assert_eq!((cpu.d, cpu.e), (0x12, 0x34));
+/// ```
+#[allow(missing_docs)] // A pair's name says it all.
+impl Cpu {
+    pub const fn af(&self) -> u16 {
+        u16::from_be_bytes([self.a, self.f])
+    }
+
+    pub const fn bc(&self) -> u16 {
+        u16::from_be_bytes([self.b, self.c])
+    }
+
+    pub const fn de(&self) -> u16 {
+        u16::from_be_bytes([self.d, self.e])
+    }
+
+    pub const fn hl(&self) -> u16 {
+        u16::from_be_bytes([self.h, self.l])
+    }
+
+    /// The low four bits go into F too, and a state that has one of them set is refused.
+    pub fn set_af(&mut self, pair: u16) {
+        [self.a, self.f] = pair.to_be_bytes();
+    }
+
+    pub fn set_bc(&mut self, pair: u16) {
+        [self.b, self.c] = pair.to_be_bytes();
+    }
+
+    pub fn set_de(&mut self, pair: u16) {
+        [self.d, self.e] = pair.to_be_bytes();
+    }
+
+    pub fn set_hl(&mut self, pair: u16) {
+        [self.h, self.l] = pair.to_be_bytes();
     }
 }
 

@@ -6,9 +6,11 @@
 //! machines can run, in any threads.
 //!
 //! - [`step`] takes one step and [`run`] takes steps until a budget of cycles is met;
+//! - [`run_image`] runs a saved image where it lies, and [`open_mut`] lends one as an [`Image`] that
+//!   can be looked at, written to, stepped and run; both leave the image's state and its memory
+//!   together, also where the run ends early;
+//! - [`open`] reads an image where it lies, and [`save_image`] writes one of a state and a memory;
 //! - [`save`] and [`load`] write and read a head, the 23 bytes of a saved state;
-//! - [`save_image`] writes an image, a head and the memory after it, [`open`] and [`open_mut`] read
-//!   one where it lies;
 //! - [`length`] and [`untaken_cycles`] look an opcode up.
 //!
 //! The memory is never copied, except into an image that is saved.
@@ -32,19 +34,31 @@
 //! assert_eq!(memory[0xC000..0xC002], [0x00, 0x02]);
 //! # Ok::<(), trnadulek::Ended>(())
 //! ```
+//!
+//! The feature `std`, which is on by default, gives the errors [`std::error::Error`]. Without it the
+//! crate is `no_std`.
 
 #![no_std]
 #![warn(missing_docs)]
 
+#[cfg(feature = "std")]
+extern crate std;
+
 mod cpu;
-mod link;
+mod image;
+#[doc(hidden)]
+#[allow(missing_docs)] // The header says what each call does.
+pub mod link;
 mod refusal;
 mod saved;
 mod steps;
 mod table;
+mod version;
 
-pub use cpu::{Cpu, Ime, Mode};
-pub use refusal::Refusal;
-pub use saved::{load, open, open_mut, save, save_image, HEAD_SIZE, IMAGE_SIZE};
+pub use cpu::{Cpu, Ime, Mode, UnknownName};
+pub use image::{open_mut, run_image, Image};
+pub use refusal::{Refusal, UnknownNumber};
+pub use saved::{load, open, save, save_image, HEAD_SIZE, IMAGE_SIZE, STATE_SIZE};
 pub use steps::{run, step, Ended, Ran, Stepped, LARGEST_BUDGET, LARGEST_EXCESS, MEMORY_SIZE};
 pub use table::{length, untaken_cycles};
+pub use version::{version, VERSION};

@@ -1,4 +1,3 @@
-use core::error::Error;
 use core::fmt::{self, Display, Formatter};
 use core::str;
 
@@ -70,26 +69,12 @@ impl Refusal {
         }
     }
 
-    /// The refusal of a number, if there is one.
-    ///
-    /// ```
-    /// use trnadulek::Refusal;
-    ///
-    /// assert_eq!(Refusal::from_number(4), Some(Refusal::UndefinedOpcode));
-    /// assert_eq!(Refusal::from_number(0), None);
-    /// ```
-    pub fn from_number(number: u8) -> Option<Self> {
-        Self::ALL
-            .into_iter()
-            .find(|refusal| refusal.number() == number)
-    }
-
     /// What an answer of the core stands for: 0 is done.
     pub(crate) fn judge(code: u8) -> Result<(), Refusal> {
         if code == 0 {
             return Ok(());
         }
-        Err(Self::from_number(code).expect("a library of this version answers no other number"))
+        Err(Refusal::try_from(code).expect("a library of this version answers no other number"))
     }
 }
 
@@ -104,4 +89,39 @@ impl Display for Refusal {
     }
 }
 
-impl Error for Refusal {}
+#[cfg(feature = "std")]
+impl std::error::Error for Refusal {}
+
+/// The refusal of a number.
+///
+/// ```
+/// use trnadulek::Refusal;
+///
+/// assert_eq!(Refusal::try_from(4), Ok(Refusal::UndefinedOpcode));
+/// assert!(Refusal::try_from(0).is_err());
+/// ```
+impl TryFrom<u8> for Refusal {
+    type Error = UnknownNumber;
+
+    /// # Errors
+    ///
+    /// For a number that stands for no refusal: 0, which is done, and those above 9.
+    fn try_from(number: u8) -> Result<Self, UnknownNumber> {
+        let mut all = Refusal::ALL.into_iter();
+        all.find(|refusal| refusal.number() == number)
+            .ok_or(UnknownNumber(number))
+    }
+}
+
+/// A number that stands for no refusal.
+#[derive(Clone, Copy, PartialEq, Eq, Hash, Debug)]
+pub struct UnknownNumber(pub u8);
+
+impl Display for UnknownNumber {
+    fn fmt(&self, out: &mut Formatter<'_>) -> fmt::Result {
+        write!(out, "no refusal has the number {}", self.0)
+    }
+}
+
+#[cfg(feature = "std")]
+impl std::error::Error for UnknownNumber {}

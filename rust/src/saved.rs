@@ -1,16 +1,24 @@
 use crate::cpu::Cpu;
-use crate::link;
+use crate::link::{self, Block};
 use crate::refusal::Refusal;
 use crate::steps::MEMORY_SIZE;
 
 /// Bytes of a head.
 pub const HEAD_SIZE: usize = 23;
 
+/// Bytes of a state block, the part of a head that is the state itself. Later versions may have
+/// more.
+pub const STATE_SIZE: usize = 14;
+
 /// Bytes of an image: a head, and the memory after it.
 pub const IMAGE_SIZE: usize = HEAD_SIZE + MEMORY_SIZE;
 
-/// Loads a head. Refused, in this order, for the length, the version, the two lengths inside, the
-/// codes of IME and mode, F.
+/// Loads a head.
+///
+/// # Errors
+///
+/// Refused, in this order, for the length, the version, the two lengths inside, the codes of IME and
+/// mode, F.
 ///
 /// ```
 /// use trnadulek::{load, save, Cpu, HEAD_SIZE};
@@ -22,13 +30,16 @@ pub const IMAGE_SIZE: usize = HEAD_SIZE + MEMORY_SIZE;
 /// # Ok::<(), trnadulek::Refusal>(())
 /// ```
 pub fn load(head: &[u8]) -> Result<Cpu, Refusal> {
-    let (code, block) = link::load_head(head);
-    Refusal::judge(code)?;
+    let mut block = Block::default();
+    Refusal::judge(link::load_head(head, &mut block))?;
     Ok(Cpu::from_block(block))
 }
 
-/// Saves a state as a head. Refused, in this order, for the head's length, F; then the head is
-/// unchanged.
+/// Saves a state as a head.
+///
+/// # Errors
+///
+/// Refused, in this order, for the head's length, F; then the head is unchanged.
 ///
 /// ```
 /// use trnadulek::{save, Cpu, Refusal, HEAD_SIZE};
@@ -42,8 +53,11 @@ pub fn save(cpu: Cpu, head: &mut [u8]) -> Result<(), Refusal> {
     Refusal::judge(link::save_head(&cpu.block(), head))
 }
 
-/// Opens an image: its state, and its memory, which is a part of the image. Refused as [`load`]
-/// refuses.
+/// Opens an image: its state, and its memory, which is a part of the image.
+///
+/// # Errors
+///
+/// Refused as [`load`] refuses.
 ///
 /// ```
 /// use trnadulek::{open, save_image, Cpu, IMAGE_SIZE, MEMORY_SIZE};
@@ -56,37 +70,17 @@ pub fn save(cpu: Cpu, head: &mut [u8]) -> Result<(), Refusal> {
 /// # Ok::<(), trnadulek::Refusal>(())
 /// ```
 pub fn open(image: &[u8]) -> Result<(Cpu, &[u8]), Refusal> {
-    let cpu = opened(image)?;
-    Ok((cpu, &image[HEAD_SIZE..]))
+    let mut block = Block::default();
+    Refusal::judge(link::open_image(image, &mut block))?;
+    Ok((Cpu::from_block(block), &image[HEAD_SIZE..]))
 }
 
-/// Opens an image whose memory is to be written where it lies: nothing is copied. The state in the
-/// image stays what it was until a head is saved over it, `save(cpu, &mut image[..HEAD_SIZE])`.
+/// Saves a state and a memory as an image.
 ///
-/// ```
-/// use trnadulek::{open_mut, run, save, save_image, Cpu, Mode, HEAD_SIZE, IMAGE_SIZE, MEMORY_SIZE};
+/// # Errors
 ///
-/// let mut image = vec![0; IMAGE_SIZE];
-/// save_image(Cpu { mode: Mode::Halted, ..Cpu::default() }, &vec![0; MEMORY_SIZE], &mut image)?;
-///
-/// let (cpu, memory) = open_mut(&mut image)?;
-/// let ran = run(cpu, memory, 17_556)?;
-/// save(ran.cpu, &mut image[..HEAD_SIZE])?;
-/// # Ok::<(), trnadulek::Refusal>(())
-/// ```
-pub fn open_mut(image: &mut [u8]) -> Result<(Cpu, &mut [u8]), Refusal> {
-    let cpu = opened(image)?;
-    Ok((cpu, &mut image[HEAD_SIZE..]))
-}
-
-/// Saves a state and a memory as an image. Refused, in this order, for the image's length, the
-/// memory's length, F; then the image is unchanged.
+/// Refused, in this order, for the image's length, the memory's length, F; then the image is
+/// unchanged.
 pub fn save_image(cpu: Cpu, memory: &[u8], image: &mut [u8]) -> Result<(), Refusal> {
     Refusal::judge(link::save_image(&cpu.block(), memory, image))
-}
-
-fn opened(image: &[u8]) -> Result<Cpu, Refusal> {
-    let (code, block) = link::open_image(image);
-    Refusal::judge(code)?;
-    Ok(Cpu::from_block(block))
 }

@@ -1,10 +1,8 @@
-use core::error::Error;
 use core::fmt::{self, Display, Formatter};
 
 use crate::cpu::Cpu;
 use crate::link;
 use crate::refusal::Refusal;
-use crate::saved::HEAD_SIZE;
 
 /// Bytes of the memory.
 pub const MEMORY_SIZE: usize = 65_536;
@@ -36,6 +34,17 @@ pub struct Ran {
 }
 
 /// A run that did not come to its budget: why, and the steps before that, which stay.
+///
+/// It does not turn into a bare [`Refusal`] by `?`, as that would drop the state that the memory has
+/// come to:
+///
+/// ```compile_fail,E0277
+/// use trnadulek::{run, Cpu, Refusal};
+///
+/// fn frame(cpu: Cpu, memory: &mut [u8]) -> Result<Cpu, Refusal> {
+///     Ok(run(cpu, memory, 17_556)?.cpu)
+/// }
+/// ```
 #[derive(Clone, Copy, PartialEq, Eq, Hash, Debug)]
 pub struct Ended {
     /// Why the run ended.
@@ -55,20 +64,29 @@ impl Display for Ended {
     }
 }
 
-impl Error for Ended {
-    fn source(&self) -> Option<&(dyn Error + 'static)> {
+#[cfg(feature = "std")]
+impl std::error::Error for Ended {
+    fn source(&self) -> Option<&(dyn std::error::Error + 'static)> {
         Some(&self.refusal)
     }
 }
 
-impl From<Ended> for Refusal {
-    fn from(ended: Ended) -> Self {
-        ended.refusal
+impl Ran {
+    /// What a run came to that the core answered with this number.
+    pub(crate) fn judged(self, code: u8) -> Result<Ran, Ended> {
+        match Refusal::judge(code) {
+            Ok(()) => Ok(self),
+            Err(refusal) => Err(Ended { refusal, ran: self }),
+        }
     }
 }
 
-/// Takes one step. Refused, in this order, for the memory's length, F, a Stopped mode, an undefined
-/// opcode; a refused step changes nothing.
+/// Takes one step.
+///
+/// # Errors
+///
+/// Refused, in this order, for the memory's length, F, a Stopped mode, an undefined opcode; a
+/// refused step changes nothing.
 ///
 /// ```
 /// use trnadulek::{step, Cpu, Refusal, MEMORY_SIZE};
@@ -84,17 +102,22 @@ impl From<Ended> for Refusal {
 /// # Ok::<(), Refusal>(())
 /// ```
 pub fn step(cpu: Cpu, memory: &mut [u8]) -> Result<Stepped, Refusal> {
-    let mut head = head_for(cpu, memory)?;
-    let (code, cycles) = link::step(&mut head, memory);
-    Refusal::judge(code)?;
+    let (mut block, mut cycles) = (cpu.block(), 0);
+    Refusal::judge(link::step(&mut block, memory, &mut cycles))?;
     Ok(Stepped {
-        cpu: cpu_in(&head),
+        cpu: Cpu::from_block(block),
         cycles,
     })
 }
 
 /// Takes steps while the cycles spent are below the budget, so that it spends at least the budget
 /// and at most [`LARGEST_EXCESS`] more.
+///
+/// The steps go into the memory, and the state after them is in the answer, in [`Ran`] or in
+/// [`Ended`]: the two belong together. An image that is run where it lies keeps them together by
+/// itself, by [`run_image`](crate::run_image) or [`open_mut`](crate::open_mut).
+///
+/// # Errors
 ///
 /// Refused, in this order, for the memory's length, F, the budget; then nothing is changed and
 /// nothing spent. A step that is refused, for a Stopped mode or an undefined opcode, ends the run:
@@ -113,37 +136,8 @@ pub fn step(cpu: Cpu, memory: &mut [u8]) -> Result<Stepped, Refusal> {
 /// assert_eq!((ran.spent, ran.steps), (3, 3));
 /// ```
 pub fn run(cpu: Cpu, memory: &mut [u8], budget: u32) -> Result<Ran, Ended> {
-    let not_begun = Ran {
-        cpu,
-        spent: 0,
-        steps: 0,
-    };
-    let mut head = head_for(cpu, memory).map_err(|refusal| Ended {
-        refusal,
-        ran: not_begun,
-    })?;
-    let (code, spent, steps) = link::run(&mut head, memory, budget);
-    let ran = Ran {
-        cpu: cpu_in(&head),
-        spent,
-        steps,
-    };
-    Refusal::judge(code).map_err(|refusal| Ended { refusal, ran })?;
-    Ok(ran)
-}
-
-/// The head that a call works on. The memory's length comes before the state in the order of the
-/// refusals.
-fn head_for(cpu: Cpu, memory: &[u8]) -> Result<[u8; HEAD_SIZE], Refusal> {
-    if memory.len() != MEMORY_SIZE {
-        return Err(Refusal::MemoryLength);
-    }
-    let mut head = [0; HEAD_SIZE];
-    Refusal::judge(link::save_head(&cpu.block(), &mut head))?;
-    Ok(head)
-}
-
-/// The state in a head that the core wrote.
-fn cpu_in(head: &[u8; HEAD_SIZE]) -> Cpu {
-    Cpu::from_block(link::load_head(head).1)
+    let (mut block, mut spent, mut steps) = (cpu.block(), 0, 0);
+    let code = link::run(&mut block, memory, budget, &mut spent, &mut steps);
+    let cpu = Cpu::from_block(block);
+    Ran { cpu, spent, steps }.judged(code)
 }

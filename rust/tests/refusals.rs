@@ -1,7 +1,7 @@
 //! The numbers of document 01, "Refusal numbers", and its words.
 
 use std::error::Error;
-use trnadulek::Refusal;
+use trnadulek::{Refusal, UnknownNumber};
 
 #[test]
 fn every_refusal_has_its_number_and_words() {
@@ -26,14 +26,19 @@ fn every_refusal_has_its_number_and_words() {
 #[test]
 fn numbers_and_refusals_there_and_back() {
     for number in 0..=255 {
-        let refusal = Refusal::from_number(number);
-        assert_eq!(refusal.is_some(), (1..=9).contains(&number));
-        assert!(refusal.is_none_or(|refusal| refusal.number() == number));
+        let given = Refusal::try_from(number).map(Refusal::number);
+        let wanted = match number {
+            1..=9 => Ok(number),
+            _ => Err(UnknownNumber(number)),
+        };
+        assert_eq!(given, wanted);
     }
 }
 
 #[test]
-fn a_refusal_is_an_error() {
+fn a_refusal_is_an_error_and_so_is_a_number_that_is_none() {
     let error: Box<dyn Error> = Refusal::Version.into();
     assert_eq!(error.to_string(), "version byte is not 1");
+    let error: Box<dyn Error> = UnknownNumber(10).into();
+    assert_eq!(error.to_string(), "no refusal has the number 10");
 }

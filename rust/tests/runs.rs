@@ -228,6 +228,6 @@ fn an_ended_run_says_why_and_how_far_it_came() {
     let ended = run(Cpu::default(), &mut memory, 100).unwrap_err();
     let words = "the step would run an undefined opcode, after 2 steps and 2 cycles";
     assert_eq!(ended.to_string(), words);
-    assert_eq!(Refusal::from(ended), Refusal::UndefinedOpcode);
-    assert!(std::error::Error::source(&ended).is_some());
+    let source = std::error::Error::source(&ended).expect("the refusal");
+    assert_eq!(source.to_string(), "the step would run an undefined opcode");
 }

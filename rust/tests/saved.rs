@@ -2,25 +2,9 @@
 
 mod common;
 
-use common::sample;
-use trnadulek::{load, open, open_mut, save, save_image, Cpu, Ime, Mode, Refusal};
+use common::{sample, sample_image, sample_memory, SAMPLE_HEAD};
+use trnadulek::{load, open, open_mut, run_image, save, save_image, Cpu, Ime, Mode, Refusal};
 use trnadulek::{HEAD_SIZE, IMAGE_SIZE, MEMORY_SIZE};
-
-const SAMPLE_HEAD: [u8; HEAD_SIZE] = [
-    1, 0, 0, 0, 14, 0x11, 0xB0, 0x22, 0x33, 0x44, 0x55, 0x66, 0x77, 0x88, 0x99, 0xAA, 0xBB, 1, 2,
-    0, 1, 0, 0,
-];
-
-/// A memory in which no byte is like its neighbours.
-fn sample_memory() -> Vec<u8> {
-    (0..MEMORY_SIZE)
-        .map(|at| (at * 7 + at / 256) as u8)
-        .collect()
-}
-
-fn sample_image() -> Vec<u8> {
-    [SAMPLE_HEAD.as_slice(), &sample_memory()].concat()
-}
 
 #[test]
 fn a_head_there_and_back() {
@@ -32,8 +16,8 @@ fn a_head_there_and_back() {
 
 #[test]
 fn every_switch_and_mode_there_and_back() {
-    for ime in [Ime::Off, Ime::Arming, Ime::On] {
-        for mode in [Mode::Running, Mode::Repeat, Mode::Halted, Mode::Stopped] {
+    for ime in Ime::ALL {
+        for mode in Mode::ALL {
             let cpu = Cpu {
                 ime,
                 mode,
@@ -57,13 +41,10 @@ fn an_image_there_and_back() {
 
 #[test]
 fn the_memory_of_an_opened_image_is_a_part_of_it() {
-    let mut image = sample_image();
+    let image = sample_image();
     let part = image[HEAD_SIZE..].as_ptr();
-    assert_eq!(open(&image).unwrap().1.as_ptr(), part);
-    let (_, memory) = open_mut(&mut image).unwrap();
+    let memory = open(&image).unwrap().1;
     assert_eq!((memory.as_ptr(), memory.len()), (part, MEMORY_SIZE));
-    memory[0] = 0xAB;
-    assert_eq!(image[HEAD_SIZE], 0xAB);
 }
 
 /// Everything in a head is wrong at first, and is put right in the order of the refusals.
@@ -111,7 +92,11 @@ fn heads_are_refused_in_order() {
 fn images_are_refused_in_order() {
     loads_are_refused_in_order(&mut [0; IMAGE_SIZE + 1], |image| Ok(open(image)?.0));
     loads_are_refused_in_order(&mut [0; IMAGE_SIZE + 1], |image| {
-        Ok(open_mut(&mut image.to_vec())?.0)
+        Ok(open_mut(&mut image.to_vec())?.cpu())
+    });
+    loads_are_refused_in_order(&mut [0; IMAGE_SIZE + 1], |image| {
+        let ran = run_image(&mut image.to_vec(), 0);
+        ran.map(|ran| ran.cpu).map_err(|ended| ended.refusal)
     });
 }
 

@@ -1,58 +1,42 @@
-//! A game that moves a hundred thousand times from unit to unit, in the middle of random runs, ends as one that never moved.
+//! A game that moves a hundred thousand times from unit to unit, in the middle of random runs, ends
+//! as one that never moved. The moved one is run where it lies in its image, the other as a state
+//! and a memory.
 
-use trnadulek::{open, run, save_image, Cpu, Ended, Ran, Refusal, IMAGE_SIZE, MEMORY_SIZE};
+use random::Random;
+use trnadulek::{open, run, run_image, save_image, Cpu, Ended, Ran, Refusal};
+use trnadulek::{IMAGE_SIZE, MEMORY_SIZE};
 
 const MOVES: u32 = 100_000;
 const MOVES_OF_A_GAME: u32 = 400;
 const SEED: u64 = 1;
 
-/// Random numbers from a fixed seed.
-struct Random(u64);
+/// STOP, HALT and the undefined bytes: without them most runs are long.
+const ENDS: [u8; 13] = [
+    0x10, 0x76, 0xD3, 0xDB, 0xDD, 0xE3, 0xE4, 0xEB, 0xEC, 0xED, 0xF4, 0xFC, 0xFD,
+];
 
-impl Random {
-    fn next(&mut self) -> u64 {
-        self.0 = self.0.wrapping_add(0x9E37_79B9_7F4A_7C15);
-        let mut x = self.0;
-        x = (x ^ (x >> 30)).wrapping_mul(0xBF58_476D_1CE4_E5B9);
-        x = (x ^ (x >> 27)).wrapping_mul(0x94D0_49BB_1331_11EB);
-        x ^ (x >> 31)
-    }
-
-    fn byte(&mut self) -> u8 {
-        (self.next() >> 24) as u8
-    }
-
-    fn word(&mut self) -> u16 {
-        (self.next() >> 24) as u16
-    }
-
-    /// A byte that is neither STOP nor HALT nor undefined, so that most runs are long.
-    fn opcode(&mut self) -> u8 {
-        const ENDS: [u8; 13] = [
-            0x10, 0x76, 0xD3, 0xDB, 0xDD, 0xE3, 0xE4, 0xEB, 0xEC, 0xED, 0xF4, 0xFC, 0xFD,
-        ];
-        loop {
-            let byte = self.byte();
-            if !ENDS.contains(&byte) {
-                return byte;
-            }
+fn lasting_byte(random: &mut Random) -> u8 {
+    loop {
+        let byte = random.byte();
+        if !ENDS.contains(&byte) {
+            return byte;
         }
     }
+}
 
-    fn cpu(&mut self) -> Cpu {
-        Cpu {
-            a: self.byte(),
-            f: self.byte() & 0xF0,
-            b: self.byte(),
-            c: self.byte(),
-            d: self.byte(),
-            e: self.byte(),
-            h: self.byte(),
-            l: self.byte(),
-            sp: self.word(),
-            pc: self.word(),
-            ..Cpu::default()
-        }
+fn random_cpu(random: &mut Random) -> Cpu {
+    Cpu {
+        a: random.byte(),
+        f: random.byte() & 0xF0,
+        b: random.byte(),
+        c: random.byte(),
+        d: random.byte(),
+        e: random.byte(),
+        h: random.byte(),
+        l: random.byte(),
+        sp: random.word(),
+        pc: random.word(),
+        ..Cpu::default()
     }
 }
 
@@ -66,53 +50,53 @@ fn left_by(ran: Result<Ran, Ended>) -> Left {
     }
 }
 
-/// Saves a game on one unit, carries the bytes over and loads them on another.
-fn carry(cpu: Cpu, memory: &mut [u8], saved: &mut [u8], carried: &mut [u8]) -> Cpu {
-    save_image(cpu, memory, saved).expect("a valid state is saved");
-    carried.copy_from_slice(saved);
-    memory.fill(0xEE);
-    let (cpu, part) = open(carried).expect("a saved image is opened");
-    memory.copy_from_slice(part);
-    cpu
-}
-
-/// Plays one game in slices with a move after each, and holds it against the game that never moved. Answers the moves.
-fn game(random: &mut Random, saved: &mut [u8], carried: &mut [u8]) -> u32 {
-    let start = random.cpu();
-    let mut memory: Vec<u8> = (0..MEMORY_SIZE).map(|_| random.opcode()).collect();
-    let mut stayed = memory.clone();
-    let mut ended = None;
+/// Runs the image in slices of a game, carried to another unit after each. Answers what all of them
+/// came to, and the moves.
+fn play(random: &mut Random, start: Cpu, image: &mut Vec<u8>, other: &mut Vec<u8>) -> (Left, u32) {
     let mut whole = Ran {
         cpu: start,
         spent: 0,
         steps: 0,
     };
-    let mut moves = 0;
-    while moves < MOVES_OF_A_GAME && ended.is_none() {
-        let budget = 1 + (random.next() % 200) as u32;
-        let (refusal, slice) = left_by(run(whole.cpu, &mut memory, budget));
-        ended = refusal;
+    for moves in 1..=MOVES_OF_A_GAME {
+        let (ended, slice) = left_by(run_image(image, 1 + random.below(200)));
         whole = Ran {
-            cpu: carry(slice.cpu, &mut memory, saved, carried),
+            cpu: slice.cpu,
             spent: whole.spent + slice.spent,
             steps: whole.steps + slice.steps,
         };
-        moves += 1;
+        other.copy_from_slice(image);
+        image.fill(0xEE);
+        std::mem::swap(image, other);
+        if ended.is_some() {
+            return ((ended, whole), moves);
+        }
     }
-    let budget = whole.spent + u32::from(ended.is_some());
-    assert_eq!(left_by(run(start, &mut stayed, budget)), (ended, whole));
+    ((None, whole), MOVES_OF_A_GAME)
+}
+
+/// Plays one game and holds it against the game that never moved. Answers the moves.
+fn game(random: &mut Random, image: &mut Vec<u8>, other: &mut Vec<u8>) -> u32 {
+    let start = random_cpu(random);
+    let mut stayed: Vec<u8> = (0..MEMORY_SIZE).map(|_| lasting_byte(random)).collect();
+    save_image(start, &stayed, image).expect("a valid state is saved");
+    let (moved, moves) = play(random, start, image, other);
+    let budget = moved.1.spent + u32::from(moved.0.is_some());
+    assert_eq!(left_by(run(start, &mut stayed, budget)), moved);
+    let (cpu, memory) = open(image).expect("an image stays one");
+    assert_eq!(cpu, moved.1.cpu);
     assert!(stayed == memory, "the memories differ");
     moves
 }
 
 #[test]
 fn a_game_that_moves_ends_as_one_that_stays() {
-    let mut random = Random(SEED);
-    let mut saved = vec![0; IMAGE_SIZE];
-    let mut carried = vec![0; IMAGE_SIZE];
+    let mut random = Random::new(SEED, "soak");
+    let mut image = vec![0; IMAGE_SIZE];
+    let mut other = vec![0; IMAGE_SIZE];
     let (mut moves, mut games) = (0, 0);
     while moves < MOVES {
-        moves += game(&mut random, &mut saved, &mut carried);
+        moves += game(&mut random, &mut image, &mut other);
         games += 1;
     }
     println!("seed {SEED}: {moves} moves in {games} games");

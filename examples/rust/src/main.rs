@@ -3,8 +3,8 @@
 //! An image comes from the flat unit. It is run for a frame where it lies, saved, opened on the
 //! charged unit and run on. The game adds 1 to its score in each frame.
 
-use trnadulek::{open, open_mut, run, save, save_image, Cpu, Mode, Refusal};
-use trnadulek::{HEAD_SIZE, IMAGE_SIZE, MEMORY_SIZE};
+use std::error::Error;
+use trnadulek::{open, open_mut, save_image, Cpu, Mode, Refusal, IMAGE_SIZE, MEMORY_SIZE};
 
 const FRAME_CYCLES: u32 = 17_556;
 
@@ -12,7 +12,7 @@ const FRAME_CYCLES: u32 = 17_556;
 const SCORE: usize = 0xC000;
 /// What a frame adds to it.
 const WON: usize = 0xC100;
-const REQUESTS: usize = 0xFF0F;
+const REQUESTS: u16 = 0xFF0F;
 const ENABLED: usize = 0xFFFF;
 const NEW_FRAME: u8 = 0x01;
 
@@ -55,16 +55,17 @@ fn show_score(unit: &str, image: &[u8]) -> Result<(), Refusal> {
     Ok(())
 }
 
-/// A frame: the game is told of it, and gets its cycles. The image is changed in place.
-fn run_frame(image: &mut [u8]) -> Result<(), Refusal> {
-    let (cpu, memory) = open_mut(image)?;
-    memory[REQUESTS] |= NEW_FRAME;
-    let ran = run(cpu, memory, FRAME_CYCLES)?;
+/// A frame: the game is told of it, and gets its cycles. The image is changed where it lies, and
+/// has every step that was taken, also where the game ends before its frame.
+fn run_frame(image: &mut [u8]) -> Result<(), Box<dyn Error>> {
+    let mut image = open_mut(image)?;
+    image.set_byte(REQUESTS, image.byte(REQUESTS) | NEW_FRAME);
+    let ran = image.run(FRAME_CYCLES)?;
     println!("  a frame: {} cycles, {} steps", ran.spent, ran.steps);
-    save(ran.cpu, &mut image[..HEAD_SIZE])
+    Ok(())
 }
 
-fn main() -> Result<(), Refusal> {
+fn main() -> Result<(), Box<dyn Error>> {
     let mut unit_one = saved_image()?;
     show_score("flat unit", &unit_one)?;
     run_frame(&mut unit_one)?;
@@ -74,5 +75,6 @@ fn main() -> Result<(), Refusal> {
     let mut unit_two = unit_one.clone();
     show_score("charged unit", &unit_two)?;
     run_frame(&mut unit_two)?;
-    show_score("charged unit", &unit_two)
+    show_score("charged unit", &unit_two)?;
+    Ok(())
 }
