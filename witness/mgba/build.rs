@@ -8,7 +8,9 @@ fn main() {
     let out = std::env::var("OUT_DIR").expect("cargo names OUT_DIR");
     let object = Path::new(&out).join("shim.o");
     let archive = Path::new(&out).join("libmgba_shim.a");
-    run(Command::new("gcc")
+    println!("cargo:rerun-if-env-changed=CC");
+    let compiler = std::env::var_os("CC").unwrap_or_else(|| "gcc".into());
+    run(Command::new(compiler)
         .args([
             "-std=gnu11",
             "-O2",
@@ -27,9 +29,12 @@ fn main() {
 }
 
 fn run(command: &mut Command) {
-    let done = command.status().is_ok_and(|status| status.success());
-    if !done {
-        eprintln!("witness two did not build ({command:?}): gcc, ar and libmgba-dev are needed");
+    let status = command.status();
+    if !matches!(&status, Ok(status) if status.success()) {
+        eprintln!(
+            "witness two did not build ({command:?}): gcc, or what CC names, ar and libmgba-dev \
+             are needed"
+        );
         exit(1);
     }
 }

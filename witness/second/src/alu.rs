@@ -151,7 +151,7 @@ impl State {
         let half = (low & 0x0F) + (offset & 0x0F) > 0x0F;
         let (_, full) = low.overflowing_add(offset);
         self.f = when(half, H) | when(full, C);
-        self.sp.wrapping_add_signed(i16::from(offset as i8))
+        self.sp.wrapping_add(i16::from(offset as i8) as u16)
     }
 }
 

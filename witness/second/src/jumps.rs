@@ -6,7 +6,7 @@ use crate::state::Ime;
 impl Machine<'_> {
     /// Jumps by a signed byte from the address after the instruction.
     pub fn jr(&mut self, offset: u8) {
-        self.r.pc = self.r.pc.wrapping_add_signed(i16::from(offset as i8));
+        self.r.pc = self.r.pc.wrapping_add(i16::from(offset as i8) as u16);
     }
 
     pub fn jr_if(&mut self, condition: bool, offset: u8) {

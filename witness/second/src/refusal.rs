@@ -1,4 +1,4 @@
-//! The refusal numbers of document 01, and a sentence for each.
+//! The refusal numbers of document 01, and its words for each.
 
 pub const DONE: u8 = 0;
 pub const MEMORY_LENGTH: u8 = 1;
@@ -11,19 +11,19 @@ pub const VERSION: u8 = 7;
 pub const BLOCK_LENGTH: u8 = 8;
 pub const STATE_CODE: u8 = 9;
 
-/// What a number means, for a person at a terminal.
+/// What a number means, in the words that the project has for it everywhere.
 pub fn sentence(code: u8) -> &'static str {
     match code {
         DONE => "done",
-        MEMORY_LENGTH => "the memory is not 65,536 bytes long",
-        FLAG_BITS => "one of the low four bits of F is set",
-        STOPPED => "the machine is Stopped and takes no step",
-        UNDEFINED => "the next step would run an undefined opcode",
-        BUDGET => "the budget is above 1,048,576",
-        LENGTH => "the head, image or output has the wrong length",
-        VERSION => "the version byte is not 1",
-        BLOCK_LENGTH => "a block length is not the one the saved form has",
-        STATE_CODE => "the IME code is above 2 or the mode code is above 3",
+        MEMORY_LENGTH => "memory length is not 65,536",
+        FLAG_BITS => "low four bits of F are not 0",
+        STOPPED => "mode is Stopped when a step is due",
+        UNDEFINED => "the step would run an undefined opcode",
+        BUDGET => "budget above 1,048,576",
+        LENGTH => "head, image or output slice of wrong length",
+        VERSION => "version byte is not 1",
+        BLOCK_LENGTH => "a block length is not 14, or not 65,536",
+        STATE_CODE => "IME code above 2, or mode code above 3",
         _ => "no such refusal number",
     }
 }

@@ -20,8 +20,9 @@ pub struct Ran {
 /// Takes steps while fewer cycles than the budget are spent. A refused step
 /// ends the run and leaves the steps before it.
 pub fn run(state: State, memory: &mut [u8], budget: u32) -> Ran {
-    let Ok(memory) = memory.try_into() else {
-        return not_begun(refusal::MEMORY_LENGTH, state);
+    let memory = match memory.try_into() {
+        Ok(memory) => memory,
+        Err(_) => return not_begun(refusal::MEMORY_LENGTH, state),
     };
     if !state.flags_are_valid() {
         return not_begun(refusal::FLAG_BITS, state);

@@ -34,22 +34,21 @@ pub fn load_head(head: &[u8]) -> (u8, State) {
 
 /// Opens an image and lends its memory.
 pub fn open_image(image: &[u8]) -> (u8, State, &[u8]) {
-    let Some((head, memory)) = image.split_first_chunk::<HEAD_SIZE>() else {
-        return (refusal::LENGTH, State::default(), &[]);
-    };
-    if memory.len() != SIZE {
+    if image.len() != IMAGE_SIZE {
         return (refusal::LENGTH, State::default(), &[]);
     }
-    match read_head(head) {
-        Ok(state) => (refusal::DONE, state, memory),
-        Err(code) => (code, State::default(), &[]),
+    let (head, memory) = image.split_at(HEAD_SIZE);
+    match load_head(head) {
+        (refusal::DONE, state) => (refusal::DONE, state, memory),
+        (code, state) => (code, state, &[]),
     }
 }
 
 /// Writes a head of 23 bytes, or leaves the slice as it was.
 pub fn save_head(state: State, head: &mut [u8]) -> u8 {
-    let Ok(head) = <&mut [u8; HEAD_SIZE]>::try_from(head) else {
-        return refusal::LENGTH;
+    let head: &mut [u8; HEAD_SIZE] = match head.try_into() {
+        Ok(head) => head,
+        Err(_) => return refusal::LENGTH,
     };
     if !state.flags_are_valid() {
         return refusal::FLAG_BITS;

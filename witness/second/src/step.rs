@@ -20,8 +20,9 @@ pub struct Stepped {
 
 /// Takes one step. A refused step changes nothing and costs 0 cycles.
 pub fn step(state: State, memory: &mut [u8]) -> Stepped {
-    let Ok(memory) = memory.try_into() else {
-        return refused(refusal::MEMORY_LENGTH, state);
+    let memory = match memory.try_into() {
+        Ok(memory) => memory,
+        Err(_) => return refused(refusal::MEMORY_LENGTH, state),
     };
     if !state.flags_are_valid() {
         return refused(refusal::FLAG_BITS, state);
@@ -76,8 +77,9 @@ fn instruction(mut machine: Machine) -> Stepped {
     let before = machine.r;
     let opcode = machine.fetch_first();
     machine.r.mode = Mode::Running;
-    let Some(row) = execute(&mut machine, opcode) else {
-        return refused(refusal::UNDEFINED, before);
+    let row = match execute(&mut machine, opcode) {
+        Some(row) => row,
+        None => return refused(refusal::UNDEFINED, before),
     };
     if before.ime == Ime::Arming && opcode != DI {
         machine.r.ime = Ime::On;

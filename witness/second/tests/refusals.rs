@@ -187,3 +187,22 @@ fn stop_ends_a_run_with_3() {
     assert_eq!((ran.code, ran.spent, ran.steps), (3, 2, 2));
     assert_eq!((ran.state.pc, ran.state.mode), (3, Mode::Stopped));
 }
+
+/// Document 01's table of the numbers, in its words.
+#[test]
+fn every_number_has_its_words() {
+    let table = [
+        (1, "memory length is not 65,536"),
+        (2, "low four bits of F are not 0"),
+        (3, "mode is Stopped when a step is due"),
+        (4, "the step would run an undefined opcode"),
+        (5, "budget above 1,048,576"),
+        (6, "head, image or output slice of wrong length"),
+        (7, "version byte is not 1"),
+        (8, "a block length is not 14, or not 65,536"),
+        (9, "IME code above 2, or mode code above 3"),
+    ];
+    for (number, words) in table {
+        assert_eq!(second::sentence(number), words);
+    }
+}

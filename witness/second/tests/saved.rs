@@ -1,7 +1,6 @@
 //! Heads and images: their form, their refusals, and there and back again.
 
 use second::{load_head, open_image, save_head, save_image, Ime, Mode, State};
-use std::sync::OnceLock;
 
 const SAVED: State = State {
     a: 0x0A,
@@ -26,12 +25,8 @@ const HEAD: [u8; 23] = [
 
 /// HEAD with a memory in which neighbours differ.
 fn image() -> Vec<u8> {
-    static IMAGE: OnceLock<Vec<u8>> = OnceLock::new();
-    let made = IMAGE.get_or_init(|| {
-        let memory = (0..65_536_u32).map(|address| (address * 7 + 3) as u8);
-        HEAD.into_iter().chain(memory).collect()
-    });
-    made.clone()
+    let memory = (0..65_536_u32).map(|address| (address * 7 + 3) as u8);
+    HEAD.into_iter().chain(memory).collect()
 }
 
 /// HEAD with some bytes changed.

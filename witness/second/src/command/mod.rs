@@ -12,14 +12,15 @@ use std::ffi::{OsStr, OsString};
 const USAGE: &str = "usage: second program | table | step IMAGE OUT | run IMAGE BUDGET OUT \
                      | load FILE | save OUT AF BC DE HL SP PC IME MODE [MEMORY]";
 
+/// AF BC DE HL SP PC IME MODE.
+const REGISTERS: usize = 8;
+
 const STOPPED: u8 = 3;
 const UNDEFINED: u8 = 4;
 
 /// Performs what the arguments ask for.
 pub fn perform(arguments: &[OsString]) -> Result<(), Failure> {
-    let Some((name, operands)) = arguments.split_first() else {
-        return Err(usage(USAGE));
-    };
+    let (name, operands) = arguments.split_first().ok_or_else(|| usage(USAGE))?;
     match (name.to_str(), operands) {
         (Some("program"), []) => program(),
         (Some("table"), []) => table(),
@@ -84,9 +85,10 @@ fn load(file: &OsStr) -> Result<(), Failure> {
 }
 
 fn save(out: &OsStr, operands: &[OsString]) -> Result<(), Failure> {
-    let Some((registers, rest)) = operands.split_first_chunk::<8>() else {
+    if operands.len() < REGISTERS {
         return Err(usage(USAGE));
-    };
+    }
+    let (registers, rest) = operands.split_at(REGISTERS);
     let state = numbers::state(registers)?;
     match rest {
         [] => keep_head(out, state)?,

@@ -12,16 +12,15 @@ pub fn decimal(name: &str, text: &OsStr) -> Result<u32, Failure> {
 }
 
 /// The state that AF BC DE HL SP PC IME MODE name.
-pub fn state(registers: &[OsString; 8]) -> Result<State, Failure> {
-    let [af, bc, de, hl, sp, pc, ime, mode] = registers;
-    let [a, f] = word("AF", af)?.to_be_bytes();
-    let [b, c] = word("BC", bc)?.to_be_bytes();
-    let [d, e] = word("DE", de)?.to_be_bytes();
-    let [h, l] = word("HL", hl)?.to_be_bytes();
-    let sp = word("SP", sp)?;
-    let pc = word("PC", pc)?;
-    let ime = code("IME must be 0, 1 or 2", ime, Ime::from_code)?;
-    let mode = code("MODE must be 0, 1, 2 or 3", mode, Mode::from_code)?;
+pub fn state(registers: &[OsString]) -> Result<State, Failure> {
+    let [a, f] = word("AF", &registers[0])?.to_be_bytes();
+    let [b, c] = word("BC", &registers[1])?.to_be_bytes();
+    let [d, e] = word("DE", &registers[2])?.to_be_bytes();
+    let [h, l] = word("HL", &registers[3])?.to_be_bytes();
+    let sp = word("SP", &registers[4])?;
+    let pc = word("PC", &registers[5])?;
+    let ime = code("IME must be 0, 1 or 2", &registers[6], Ime::from_code)?;
+    let mode = code("MODE must be 0, 1, 2 or 3", &registers[7], Mode::from_code)?;
     Ok(State {
         a,
         f,
