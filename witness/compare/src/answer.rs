@@ -2,6 +2,7 @@
 //! against each other.
 
 use crate::paper;
+use crate::proved::{Block, Numbers};
 use second::{Ran, State, Stepped};
 use std::fmt;
 
@@ -23,6 +24,10 @@ impl Answer {
             steps: 0,
             state,
         }
+    }
+
+    pub fn numbers(&self) -> Numbers {
+        (self.code, self.spent, self.steps)
     }
 
     /// The answer of one step.
@@ -92,23 +97,23 @@ pub fn same_answer(who: &str, expected: &Answer, given: &Answer) -> Result<(), S
     ))
 }
 
-/// The same for an answer given as code, cycles and steps beside a head.
-pub fn same_head(
+/// The same for an answer given as code, cycles and steps beside a state block.
+pub fn same_block(
     who: &str,
     expected: &Answer,
-    numbers: (u8, u32, u32),
-    head: &[u8],
+    numbers: Numbers,
+    block: &Block,
 ) -> Result<(), String> {
-    let wanted = paper::head(&expected.state);
-    if numbers == (expected.code, expected.spent, expected.steps) && head == wanted {
+    let wanted = paper::block(&expected.state);
+    if numbers == expected.numbers() && *block == wanted {
         return Ok(());
     }
     let (code, spent, steps) = numbers;
     Err(format!(
-        "{who}\n    expected {expected}, head {}\n    given    code {code}, cycles {spent}, \
-         steps {steps}, head {}",
+        "{who}\n    expected {expected}, block {}\n    given    code {code}, cycles {spent}, \
+         steps {steps}, block {}",
         hex(&wanted),
-        hex(head)
+        hex(block)
     ))
 }
 

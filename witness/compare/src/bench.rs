@@ -4,10 +4,10 @@
 //! into every memory alike, whole memories are compared, and what a step changed
 //! is put back from a trail.
 
-use crate::answer::{same, same_answer, same_bytes, same_head, Answer};
+use crate::answer::{same, same_answer, same_block, same_bytes, Answer};
 use crate::excuse::{self, Seen};
 use crate::paper::{self, IF, MEMORY_SIZE};
-use crate::proved;
+use crate::{plain, proved};
 use second::State;
 use std::borrow::Cow;
 
@@ -18,6 +18,7 @@ const CHUNK: usize = 1024;
 pub struct Judged {
     pub second: bool,
     pub mgba: bool,
+    pub plain: bool,
     pub proved: bool,
     /// The harness itself, where document 01 fixes the answer outright.
     pub paper: bool,
@@ -34,6 +35,7 @@ pub struct Bench {
     base: Vec<u8>,
     second: Vec<u8>,
     mgba: Vec<u8>,
+    plain: Vec<u8>,
     proved: Vec<u8>,
     core: mgba::Core,
     /// Old bytes, oldest first, that lead back to the background.
@@ -47,6 +49,7 @@ impl Bench {
             base: vec![0; MEMORY_SIZE],
             second: vec![0; MEMORY_SIZE],
             mgba: vec![0; MEMORY_SIZE],
+            plain: vec![0; MEMORY_SIZE],
             proved: vec![0; MEMORY_SIZE],
             core: mgba::Core::new(),
             trail: Vec::new(),
@@ -65,6 +68,7 @@ impl Bench {
     pub fn recover(&mut self) {
         self.second.copy_from_slice(&self.base);
         self.mgba.copy_from_slice(&self.base);
+        self.plain.copy_from_slice(&self.base);
         self.proved.copy_from_slice(&self.base);
     }
 
@@ -88,6 +92,7 @@ impl Bench {
         self.base[at] = byte;
         self.second[at] = byte;
         self.mgba[at] = byte;
+        self.plain[at] = byte;
         self.proved[at] = byte;
     }
 
@@ -106,6 +111,7 @@ impl Bench {
             second: true,
             paper: self.hold_to_paper(&before, &answer)?,
             mgba: self.hold_to_mgba(&before, &answer)?,
+            plain: self.hold_to_plain(&before, &answer)?,
             proved: self.hold_to_proved(&before, &answer)?,
         };
         self.settle();
@@ -205,8 +211,9 @@ impl Bench {
     pub fn mgba_alone(&mut self, state: &State, memory: &mut [u8]) -> Option<mgba::Outcome> {
         let excuse = excuse::due(state, memory);
         let outcome = self.core.step(state, memory);
-        let Some(n) = excuse else {
-            return Some(outcome);
+        let n = match excuse {
+            Some(n) => n,
+            None => return Some(outcome),
         };
         let seen = Seen {
             state: outcome.state,
@@ -222,20 +229,20 @@ impl Bench {
         })
     }
 
-    fn hold_to_proved(&mut self, before: &State, answer: &Answer) -> Result<bool, String> {
-        let mut head = paper::head(before);
-        let Some((code, cycles)) = proved::step(&mut head, &mut self.proved) else {
-            return Ok(false);
-        };
-        let steps = u32::from(code == paper::DONE);
-        same_head(
-            "the proved core",
-            answer,
-            (code, cycles.into(), steps),
-            &head,
-        )?;
-        same_bytes("the proved core's memory", &self.second, &self.proved)?;
+    fn hold_to_plain(&mut self, before: &State, answer: &Answer) -> Result<bool, String> {
+        let given = plain::step(*before, &mut self.plain);
+        same_answer("the plain core", answer, &given)?;
+        same_bytes("the plain core's memory", &self.second, &self.plain)?;
         Ok(true)
+    }
+
+    fn hold_to_proved(&mut self, before: &State, answer: &Answer) -> Result<bool, String> {
+        let mut block = paper::block(before);
+        if let Some(numbers) = proved::step(&mut block, &mut self.proved) {
+            same_block("the proved core", answer, numbers, &block)?;
+            same_bytes("the proved core's memory", &self.second, &self.proved)?;
+        }
+        Ok(proved::PRESENT)
     }
 
     /// Makes the memory after the step the one before the next.

@@ -8,31 +8,32 @@ pub const USAGE: &str = "\
 usage: compare [--seed N] [NAME...]   run all comparisons, or those named
        compare list                   name the comparisons
        compare again INPUT...         judge one input, as a failure prints it
+       compare workloads IMAGE...     run saved images in slices by every judge
        compare inputs FOLDER          write inputs for the program, with answers";
 
 const DEFAULT_SEED: u64 = 1;
 
 pub enum Command {
-    Run {
-        seed: u64,
-        chosen: Vec<&'static Comparison>,
-    },
+    Run { seed: u64, chosen: Vec<Comparison> },
     List,
     Again(Input),
+    Workloads(Vec<PathBuf>),
     Inputs(PathBuf),
     Help,
 }
 
 /// The command, or one line that says what is wrong.
 pub fn parse(arguments: &[String]) -> Result<Command, String> {
-    let Some((first, rest)) = arguments.split_first() else {
-        return run(arguments);
+    let (first, rest) = match arguments.split_first() {
+        Some(words) => words,
+        None => return run(arguments),
     };
     match first.as_str() {
         "list" => alone(rest, Command::List),
         "help" | "--help" => alone(rest, Command::Help),
         "again" => input::parse(rest).map(Command::Again),
         "inputs" => inputs(rest),
+        "workloads" => workloads(rest),
         _ => run(arguments),
     }
 }
@@ -51,6 +52,13 @@ fn inputs(rest: &[String]) -> Result<Command, String> {
     }
 }
 
+fn workloads(rest: &[String]) -> Result<Command, String> {
+    match rest {
+        [] => Err("workloads: an image is to be named".to_string()),
+        _ => Ok(Command::Workloads(rest.iter().map(PathBuf::from).collect())),
+    }
+}
+
 fn run(arguments: &[String]) -> Result<Command, String> {
     let mut seed = DEFAULT_SEED;
     let mut chosen = Vec::new();
@@ -65,7 +73,7 @@ fn run(arguments: &[String]) -> Result<Command, String> {
         }
     }
     if chosen.is_empty() {
-        chosen = comparisons::ALL.iter().collect();
+        chosen = comparisons::all().into();
     }
     Ok(Command::Run { seed, chosen })
 }

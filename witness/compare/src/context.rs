@@ -3,7 +3,7 @@
 use crate::bench::{Bench, Judged, Step};
 use crate::check::check;
 use crate::input::Input;
-use crate::rng::Rng;
+use random::Random;
 use second::State;
 
 /// How many inputs were judged, and by whom.
@@ -12,6 +12,7 @@ pub struct Tally {
     pub inputs: u64,
     pub second: u64,
     pub mgba: u64,
+    pub plain: u64,
     pub proved: u64,
     pub paper: u64,
 }
@@ -21,6 +22,7 @@ impl Tally {
         self.inputs += 1;
         self.second += u64::from(judged.second);
         self.mgba += u64::from(judged.mgba);
+        self.plain += u64::from(judged.plain);
         self.proved += u64::from(judged.proved);
         self.paper += u64::from(judged.paper);
     }
@@ -29,6 +31,7 @@ impl Tally {
         self.inputs += other.inputs;
         self.second += other.second;
         self.mgba += other.mgba;
+        self.plain += other.plain;
         self.proved += other.proved;
         self.paper += other.paper;
     }
@@ -53,7 +56,7 @@ impl Failure {
 pub type Outcome = Result<(), Failure>;
 
 pub struct Context {
-    pub rng: Rng,
+    pub rng: Random,
     pub bench: Bench,
     pub tally: Tally,
 }
@@ -61,7 +64,7 @@ pub struct Context {
 impl Context {
     pub fn new(seed: u64, name: &str) -> Self {
         Context {
-            rng: Rng::new(seed, name),
+            rng: Random::new(seed, name),
             bench: Bench::new(),
             tally: Tally::default(),
         }

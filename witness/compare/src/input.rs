@@ -13,6 +13,8 @@ pub enum Kind {
     Step,
     /// A run on a memory; the number is the budget.
     Run,
+    /// A run of an image where it lies; the number is the budget.
+    RunImage,
     /// The adding routine, set up in state and memory as document 01 says.
     Adding,
     /// Loading a head.
@@ -23,9 +25,9 @@ pub enum Kind {
     SaveHead,
     /// Saving an image of a memory; the number is the length of the slice.
     SaveImage,
-    /// Saving a state block of any codes by the proved core's C interface; the
-    /// number is the length of the slice for the head.
-    SaveBlock,
+    /// A state block of any codes, saved and where it is refused stepped and run by the
+    /// proved core's C interface; the number is the length of the slice for the head.
+    Block,
     /// The row of the opcode table that the number names.
     Row,
     /// The program on its standard input.
@@ -58,9 +60,16 @@ const fn form(
     }
 }
 
-const FORMS: [Form; 10] = [
+const FORMS: [Form; 11] = [
     form(Kind::Step, "step", true, None, MEMORY_SIZE),
     form(Kind::Run, "run", true, Some("budget"), MEMORY_SIZE),
+    form(
+        Kind::RunImage,
+        "run-image",
+        false,
+        Some("budget"),
+        IMAGE_SIZE,
+    ),
     form(Kind::Adding, "adding", true, None, MEMORY_SIZE),
     form(Kind::Load, "load", false, None, HEAD_SIZE),
     form(Kind::Open, "open", false, None, IMAGE_SIZE),
@@ -72,7 +81,7 @@ const FORMS: [Form; 10] = [
         Some("room"),
         MEMORY_SIZE,
     ),
-    form(Kind::SaveBlock, "save-block", false, Some("room"), 14),
+    form(Kind::Block, "block", false, Some("room"), 14),
     form(Kind::Row, "row", false, Some("row"), 0),
     form(Kind::Program, "program", false, None, INPUT_SIZE),
 ];
@@ -100,6 +109,10 @@ impl Input {
 
     pub fn run(state: State, memory: Vec<u8>, budget: u32) -> Self {
         Self::new(Kind::Run, state, budget, memory)
+    }
+
+    pub fn run_image(image: Vec<u8>, budget: u32) -> Self {
+        Self::new(Kind::RunImage, State::default(), budget, image)
     }
 
     pub fn new(kind: Kind, state: State, number: u32, bytes: Vec<u8>) -> Self {
@@ -245,6 +258,7 @@ mod tests {
             Input::step(state, memory.clone()),
             Input::run(state, memory.clone(), 77),
             Input::new(Kind::SaveHead, state, 22, Vec::new()),
+            Input::run_image(vec![7; IMAGE_SIZE], 100),
             Input::step(state, memory[1..].to_vec()),
             Input::bytes(Kind::Load, vec![9; 24]),
             Input::new(Kind::Row, State::default(), 511, Vec::new()),

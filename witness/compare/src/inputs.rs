@@ -2,9 +2,9 @@
 //! them: what the proved program is tested on.
 
 use crate::check::ROUTINE;
+use crate::draw;
 use crate::paper::{self, BUDGET_LIMIT, IE, IF, INPUT_SIZE, MEMORY_SIZE, UNDEFINED_BYTES};
-use crate::random;
-use crate::rng::Rng;
+use random::Random;
 use second::{Ime, Mode, State};
 use std::path::Path;
 
@@ -47,7 +47,7 @@ pub fn all() -> Vec<File> {
         bytes.resize(length, 0);
         add(name, bytes);
     }
-    let mut rng = Rng::new(SEED, "inputs");
+    let mut rng = Random::new(SEED, "inputs");
     for n in 1..=RANDOM_RUNS {
         add(&format!("random-{n:02}"), random_run(&mut rng));
     }
@@ -194,12 +194,12 @@ fn refused_heads() -> Named {
 }
 
 /// Any state on any memory with requests.
-pub fn random_run(rng: &mut Rng) -> Vec<u8> {
-    let mut memory = random::tame_noise(rng);
+pub fn random_run(rng: &mut Random) -> Vec<u8> {
+    let mut memory = draw::tame_noise(rng);
     memory[usize::from(IE)] = rng.byte();
     memory[usize::from(IF)] = rng.byte();
     let budget = rng.below(20_000);
-    let state = random::state(rng);
+    let state = draw::state(rng);
     run(budget, state, &memory)
 }
 

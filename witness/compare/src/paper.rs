@@ -68,7 +68,7 @@ pub fn step_code(state: &State, memory: &[u8]) -> u8 {
         FLAG_BITS
     } else if state.mode == Mode::Stopped {
         STOPPED
-    } else if opcode(state, memory).is_some_and(|byte| UNDEFINED_BYTES.contains(&byte)) {
+    } else if opcode(state, memory).map_or(false, |byte| UNDEFINED_BYTES.contains(&byte)) {
         UNDEFINED
     } else {
         DONE
@@ -114,7 +114,7 @@ pub fn save_code(state: &State, memory: Option<&[u8]>, length: usize) -> u8 {
     };
     if length != wanted {
         SLICE_LENGTH
-    } else if memory.is_some_and(|memory| memory.len() != MEMORY_SIZE) {
+    } else if memory.map_or(false, |memory| memory.len() != MEMORY_SIZE) {
         MEMORY_LENGTH
     } else if dirty(state) {
         FLAG_BITS

@@ -3,7 +3,7 @@
 use crate::bench::{Bench, Judged};
 use crate::check::check;
 use crate::comparisons::Comparison;
-use crate::context::{Context, Failure, Tally};
+use crate::context::{Context, Failure, Outcome, Tally};
 use crate::excuse::{Uses, TABLE};
 use crate::input::Input;
 use crate::proved;
@@ -11,8 +11,9 @@ use crate::shrink::smallest;
 use std::time::Instant;
 
 /// Runs them all; true if none failed.
-pub fn run(seed: u64, chosen: &[&Comparison]) -> bool {
-    print_heading(seed);
+pub fn run(seed: u64, chosen: &[Comparison]) -> bool {
+    println!("seed {seed}");
+    print_heading();
     let mut sum = Tally::default();
     let mut uses = Uses::default();
     let mut failed = 0;
@@ -30,46 +31,54 @@ pub fn run(seed: u64, chosen: &[&Comparison]) -> bool {
     failed == 0
 }
 
-fn print_heading(seed: u64) {
-    println!("seed {seed}");
+pub fn print_heading() {
     let proved = match proved::PRESENT {
         true => "linked",
         false => "not linked",
     };
     println!(
-        "judges: the second program; mGBA's core; the proved core ({proved}); paper, which is"
+        "judges: the second program; mGBA's core; the benchmark's plain core; the proved core \
+         ({proved});"
     );
-    println!("what document 01 fixes outright. The counts are inputs that each judged.");
+    println!(
+        "paper, which is what document 01 fixes outright. The counts are inputs that each judged."
+    );
     print_line(
         "comparison",
-        ["inputs", "second", "mgba", "proved", "paper"].map(String::from),
+        ["inputs", "second", "mgba", "plain", "proved", "paper"].map(String::from),
         "",
     );
 }
 
-fn print_line(name: &str, columns: [String; 5], verdict: &str) {
+fn print_line(name: &str, columns: [String; 6], verdict: &str) {
     let columns = columns.map(|text| format!("{text:>9}")).join(" ");
     println!("{}", format!("{name:<13} {columns}  {verdict}").trim_end());
 }
 
-fn columns(tally: &Tally) -> [String; 5] {
+fn columns(tally: &Tally) -> [String; 6] {
     let Tally {
         inputs,
         second,
         mgba,
+        plain,
         proved,
         paper,
     } = tally;
-    [inputs, second, mgba, proved, paper].map(u64::to_string)
+    [inputs, second, mgba, plain, proved, paper].map(u64::to_string)
 }
 
 fn run_one(comparison: &Comparison, context: &mut Context) -> bool {
     let start = Instant::now();
     let outcome = (comparison.run)(context).and_then(|()| someone_judged(comparison, context));
+    print_outcome(comparison.name, context, start, outcome)
+}
+
+/// A line for what was compared since the start, and what failed; true if nothing did.
+pub fn print_outcome(name: &str, context: &mut Context, start: Instant, outcome: Outcome) -> bool {
     let seconds = start.elapsed().as_secs_f64();
     let verdict = if outcome.is_ok() { "ok" } else { "FAILED" };
     let verdict = format!("{verdict}  {seconds:.1} s");
-    print_line(comparison.name, columns(&context.tally), &verdict);
+    print_line(name, columns(&context.tally), &verdict);
     match outcome {
         Ok(()) => true,
         Err(failure) => {
@@ -84,11 +93,13 @@ fn someone_judged(comparison: &Comparison, context: &Context) -> Result<(), Fail
     let tally = &context.tally;
     let silent = if tally.inputs == 0 || tally.second == 0 {
         "it compared nothing"
-    } else if comparison.mgba && tally.mgba == 0 {
+    } else if comparison.peers.mgba() && tally.mgba == 0 {
         "mGBA judged nothing"
+    } else if comparison.peers.plain() && tally.plain == 0 {
+        "the plain core judged nothing"
     } else if proved::PRESENT && tally.proved == 0 {
         "the proved core judged nothing"
-    } else if tally.mgba + tally.proved + tally.paper == 0 {
+    } else if tally.mgba + tally.plain + tally.proved + tally.paper == 0 {
         "the second program was held against nothing"
     } else {
         return Ok(());
@@ -97,9 +108,9 @@ fn someone_judged(comparison: &Comparison, context: &Context) -> Result<(), Fail
 }
 
 fn print_failure(failure: Failure, bench: &mut Bench) {
-    let Some(input) = failure.input else {
-        println!("  {}", failure.what);
-        return;
+    let input = match failure.input {
+        Some(input) => input,
+        None => return println!("  {}", failure.what),
     };
     let input = smallest(input, &mut |input| check(bench, input).is_err());
     let what = check(bench, &input).err().unwrap_or(failure.what);
@@ -124,12 +135,13 @@ fn print_totals(comparisons: usize, sum: &Tally, failed: usize) {
         inputs,
         second,
         mgba,
+        plain,
         proved,
         paper,
     } = sum;
     println!(
         "total: {comparisons} comparisons, {inputs} inputs (second {second}, mgba {mgba}, \
-         proved {proved}, paper {paper}), {failed} failed"
+         plain {plain}, proved {proved}, paper {paper}), {failed} failed"
     );
 }
 
@@ -137,6 +149,7 @@ fn names(judged: &Judged) -> String {
     let judges = [
         (judged.second, "the second program"),
         (judged.mgba, "mGBA"),
+        (judged.plain, "the plain core"),
         (judged.proved, "the proved core"),
         (judged.paper, "document 01's own words"),
     ];
@@ -165,14 +178,15 @@ pub fn again(input: &Input) -> bool {
 #[cfg(test)]
 mod tests {
     use super::*;
-    use crate::context::Outcome;
+    use crate::comparisons::Peers;
+    use crate::input::Kind;
     use second::State;
 
-    fn passes(mgba: bool, run: fn(&mut Context) -> Outcome) -> bool {
+    fn passes(peers: Peers, run: fn(&mut Context) -> Outcome) -> bool {
         let comparison = Comparison {
             name: "trial",
             about: "",
-            mgba,
+            peers,
             run,
         };
         run_one(&comparison, &mut Context::new(1, "trial"))
@@ -180,7 +194,7 @@ mod tests {
 
     #[test]
     fn to_compare_nothing_fails() {
-        assert!(!passes(false, |_| Ok(())));
+        assert!(!passes(Peers::Neither, |_| Ok(())));
     }
 
     #[test]
@@ -192,13 +206,19 @@ mod tests {
                 ..State::default()
             })
         };
-        assert!(passes(false, stopped));
-        assert!(!passes(true, stopped));
+        assert!(passes(Peers::Plain, stopped));
+        assert!(!passes(Peers::Both, stopped));
+        let row = |context: &mut Context| {
+            let row = Input::new(Kind::Row, State::default(), 0, Vec::new());
+            context.check(row).map(|_| ())
+        };
+        assert!(passes(Peers::Mgba, row));
+        assert!(!passes(Peers::Both, row));
     }
 
     #[test]
     fn a_difference_fails() {
-        assert!(!passes(true, |context| {
+        assert!(!passes(Peers::Both, |context| {
             context.lone_step(State::default())?;
             let input = Some(Input::step(State::default(), vec![0; 65_536]));
             let what = "a difference".to_string();

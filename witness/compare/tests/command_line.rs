@@ -38,6 +38,10 @@ fn bad_usage_is_one_line_and_a_status() {
         &["inputs", "a", "b"],
         &["inputs", "/dev/null"],
         &["inputs", "/dev/null/x"],
+        &["workloads"],
+        &["workloads", "/nowhere"],
+        &["workloads", "/dev/null"],
+        &["workloads", "/dev/zero"],
     ] {
         let output = compare(arguments);
         assert_eq!(output.status.code(), Some(2), "{arguments:?}");
@@ -53,7 +57,7 @@ fn list_names_what_can_be_run() {
         .lines()
         .filter_map(|line| line.split(' ').next())
         .collect();
-    assert_eq!(names.len(), 27);
+    assert_eq!(names.len(), 28);
     let output = compare(&["--seed", "7", "daa", names[0]]);
     assert!(output.status.success());
     let printed = text(&output.stdout);
@@ -83,6 +87,35 @@ fn again_judges_one_input() {
     assert_eq!(judged_by_none.status.code(), Some(1));
 }
 
+/// A counter that goes on for ever; and a game that stops, whose end is agreed on too.
+#[test]
+fn saved_images_are_run_by_every_judge() {
+    let folder = folder("workloads");
+    std::fs::create_dir(&folder).expect("a folder");
+    let programs: [(&str, &[u8]); 2] = [
+        ("counter", &[0x34, 0x18, 0xFD]),
+        ("stops", &[0x3C, 0x10, 0x00]),
+    ];
+    for (name, code) in programs {
+        let mut memory = vec![0; second::MEMORY_SIZE];
+        memory[..code.len()].copy_from_slice(code);
+        let mut image = vec![0; second::IMAGE_SIZE];
+        let state = second::State {
+            h: 0xC0,
+            ..second::State::default()
+        };
+        assert_eq!(second::save_image(state, &memory, &mut image), 0);
+        let file = folder.join(name);
+        std::fs::write(&file, &image).expect("an image");
+        let output = compare(&["workloads", file.to_str().expect("a plain path")]);
+        assert!(output.status.success());
+        let line = text(&output.stdout);
+        let line = line.lines().last().expect("a line");
+        assert!(line.starts_with(name) && line.contains(" ok "), "{line}");
+    }
+    std::fs::remove_dir_all(&folder).expect("the folder goes");
+}
+
 #[test]
 fn inputs_come_in_pairs_with_the_answers_of_the_second_program() {
     let folder = folder("inputs");
@@ -91,7 +124,7 @@ fn inputs_come_in_pairs_with_the_answers_of_the_second_program() {
     let mut inputs = 0;
     for entry in std::fs::read_dir(&folder).expect("the folder is there") {
         let path = entry.expect("an entry").path();
-        if path.extension().is_some_and(|end| end == "in") {
+        if path.extension() == Some("in".as_ref()) {
             let input = std::fs::read(&path).expect("an input");
             let answer = std::fs::read_to_string(path.with_extension("out")).expect("an answer");
             assert_eq!(answer, second::program(&input), "{}", path.display());

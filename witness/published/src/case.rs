@@ -63,8 +63,9 @@ fn case(node: &Node, unknown: &mut BTreeSet<String>) -> Result<Case, Fault> {
     let fields = Fields::new(node, "a case", "")?;
     fields.report_others(&["name", "initial", "final", "cycles"], unknown);
     let name = fields.required("name")?;
-    let Value::Text(text) = &name.value else {
-        return fault(name.at, "name must be a string");
+    let text = match &name.value {
+        Value::Text(text) => text,
+        _ => return fault(name.at, "name must be a string"),
     };
     Ok(Case {
         name: text.clone(),
@@ -121,10 +122,8 @@ fn ram(node: &Node) -> Result<BTreeMap<u16, u8>, Fault> {
     let mut ram = BTreeMap::new();
     for entry in list(node, "ram")? {
         let (address, value) = ram_entry(entry)?;
-        if ram
-            .insert(address, value)
-            .is_some_and(|other| other != value)
-        {
+        let earlier = ram.insert(address, value).unwrap_or(value);
+        if earlier != value {
             return fault(entry.at, format!("address {address} has two values"));
         }
     }
@@ -132,8 +131,9 @@ fn ram(node: &Node) -> Result<BTreeMap<u16, u8>, Fault> {
 }
 
 fn ram_entry(node: &Node) -> Result<(u16, u8), Fault> {
-    let [address, value] = list(node, "an entry of ram")? else {
-        return fault(node.at, "an entry of ram must be an address and a value");
+    let (address, value) = match list(node, "an entry of ram")? {
+        [address, value] => (address, value),
+        _ => return fault(node.at, "an entry of ram must be an address and a value"),
     };
     let address = number(address, "an address", 65_535)?;
     let value = number(value, "a value", 255)?;

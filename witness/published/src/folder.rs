@@ -6,7 +6,7 @@ use std::path::{Path, PathBuf};
 /// The `*.json` files of a folder, in the order of their names.
 pub fn json_files(folder: &Path) -> Result<Vec<PathBuf>, String> {
     let mut files = entries(folder)?;
-    files.retain(|path| path.extension().is_some_and(|ending| ending == "json"));
+    files.retain(|path| path.extension() == Some("json".as_ref()));
     if files.is_empty() {
         return Err(format!("{folder:?} holds no *.json file"));
     }

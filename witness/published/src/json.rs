@@ -277,8 +277,9 @@ mod tests {
     #[test]
     fn values_know_their_offsets() {
         let json = " [1, -20.5e+3, {\"k\" : 0, \"l\":null}, [] ] ";
-        let Value::List(nodes) = parse(json).unwrap().value else {
-            panic!("not a list");
+        let nodes = match parse(json).unwrap().value {
+            Value::List(nodes) => nodes,
+            _ => panic!("not a list"),
         };
         assert_eq!(nodes[0], number(2, "1"));
         assert_eq!(nodes[1], number(5, "-20.5e+3"));

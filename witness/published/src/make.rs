@@ -5,8 +5,6 @@ mod from_mgba;
 #[cfg(feature = "mgba")]
 mod place;
 #[cfg(feature = "mgba")]
-mod random;
-#[cfg(feature = "mgba")]
 mod write;
 
 #[cfg(feature = "mgba")]

@@ -1,49 +1,54 @@
-//! The proved core, through its C interface.
+//! The proved core, through its C interface as the Rust wrapper declares it.
 
-use second::{load_head, save_head, State, Stepped, HEAD_SIZE};
+use second::{Ime, Mode, State, Stepped};
+use trnadulek::link::{self, Block};
 
-/// The offset of F in a head.
-const FLAGS: usize = 6;
-
-extern "C" {
-    fn trnadulek_step(
-        head: *mut u8,
-        head_len: usize,
-        memory: *mut u8,
-        memory_len: usize,
-        cycles: *mut u8,
-    ) -> u8;
-}
+/// The number for a code that is none, of IME or of a mode.
+const STATE_CODE: u8 = 9;
 
 /// One step of the proved core.
 pub fn step(state: State, memory: &mut [u8]) -> Stepped {
-    let mut head = head_of(state);
+    let mut block = block_of(&state);
     let mut cycles = 0;
-    // SAFETY: each pointer is that of a live slice of ours with its own length,
-    // none overlaps another, and `cycles` is the one byte that is asked for.
-    let code = unsafe {
-        trnadulek_step(
-            head.as_mut_ptr(),
-            head.len(),
-            memory.as_mut_ptr(),
-            memory.len(),
-            &mut cycles,
-        )
-    };
-    let (unloadable, after) = load_head(&head);
-    Stepped {
-        // A head that does not load after a step that was done is no answer.
-        code: if code == 0 { unloadable } else { code },
-        cycles,
-        state: after,
+    let code = link::step(&mut block, memory, &mut cycles);
+    match state_of(&block) {
+        Some(after) => Stepped {
+            code,
+            cycles,
+            state: after,
+        },
+        // A block with such a code is no answer.
+        None => Stepped {
+            code: STATE_CODE,
+            cycles,
+            state,
+        },
     }
 }
 
-/// A head, also for an F that no saved form holds: the core is to refuse it.
-fn head_of(state: State) -> [u8; HEAD_SIZE] {
-    let mut head = [0; HEAD_SIZE];
-    let code = save_head(State { f: 0, ..state }, &mut head);
-    assert_eq!(code, 0, "a head of the right length and a valid F is saved");
-    head[FLAGS] = state.f;
-    head
+fn block_of(s: &State) -> Block {
+    let [sp_high, sp_low] = s.sp.to_be_bytes();
+    let [pc_high, pc_low] = s.pc.to_be_bytes();
+    let (ime, mode) = (s.ime.code(), s.mode.code());
+    [
+        s.a, s.f, s.b, s.c, s.d, s.e, s.h, s.l, sp_high, sp_low, pc_high, pc_low, ime, mode,
+    ]
+}
+
+fn state_of(block: &Block) -> Option<State> {
+    let [a, f, b, c, d, e, h, l, sp_high, sp_low, pc_high, pc_low, ime, mode] = *block;
+    Some(State {
+        a,
+        f,
+        b,
+        c,
+        d,
+        e,
+        h,
+        l,
+        sp: u16::from_be_bytes([sp_high, sp_low]),
+        pc: u16::from_be_bytes([pc_high, pc_low]),
+        ime: Ime::from_code(ime)?,
+        mode: Mode::from_code(mode)?,
+    })
 }

@@ -1,7 +1,7 @@
 //! The adding routine: the sum by decimal arithmetic on digits, everything else
 //! by document 01, and no core asked for either.
 
-use super::run::{by_mgba, by_second, hold_to_proved, same_run, Ran};
+use super::run::{by_mgba, by_second, hold_to_plain, hold_to_proved, same_run, Ran};
 use super::Verdict;
 use crate::answer::Answer;
 use crate::bench::{Bench, Judged};
@@ -44,6 +44,7 @@ pub fn adding(bench: &mut Bench, input: &Input) -> Verdict {
     Ok(Judged {
         second: true,
         mgba: mgba.is_some(),
+        plain: hold_to_plain(&run, &expected)?,
         proved: hold_to_proved(&run, &expected)?,
         paper: true,
     })

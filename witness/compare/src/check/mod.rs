@@ -2,6 +2,8 @@
 //! checks serve the comparisons, the search for a smaller input, and `again`.
 
 mod adding;
+mod block;
+mod image;
 mod program;
 mod run;
 mod saved;
@@ -20,12 +22,13 @@ pub fn check(bench: &mut Bench, input: &Input) -> Verdict {
     match input.kind {
         Kind::Step => step::step(bench, input),
         Kind::Run => run::run(bench, input),
+        Kind::RunImage => image::run_image(bench, input),
         Kind::Adding => adding::adding(bench, input),
         Kind::Load => saved::load(input),
         Kind::Open => saved::open(input),
         Kind::SaveHead => saved::save_head(input),
         Kind::SaveImage => saved::save_image(input),
-        Kind::SaveBlock => saved::save_block(input),
+        Kind::Block => block::block(input),
         Kind::Row => table::row(bench, input),
         Kind::Program => program::program(bench, input),
     }

@@ -7,13 +7,13 @@ use crate::answer::{same, Answer};
 use crate::bench::{Bench, Judged};
 use crate::input::Input;
 use crate::paper::{self, DONE, HEAD_SIZE};
-use crate::proved;
+use crate::{plain, proved};
 use second::State;
 
 /// What the input of the program asks for.
 struct Wanted<'a> {
     budget: u32,
-    head: &'a [u8],
+    image: &'a [u8],
     state: State,
     memory: &'a [u8],
 }
@@ -39,14 +39,16 @@ pub fn program(bench: &mut Bench, input: &Input) -> Verdict {
             given.clone(),
         )?;
     }
-    let proved = proved_text(&wanted)?;
-    if let Some(text) = &proved {
-        same("the proved core's run as text", &given, text)?;
+    let plain = plain::run(state, &mut memory.to_vec(), budget);
+    same("the plain core's run as text", &given, &paper::text(&plain))?;
+    if let Some(text) = proved_text(&wanted)? {
+        same("the proved core's run as text", given, text)?;
     }
     Ok(Judged {
         second: true,
         mgba: mgba.is_some(),
-        proved: proved.is_some(),
+        plain: true,
+        proved: proved::PRESENT,
         paper: true,
     })
 }
@@ -58,15 +60,15 @@ fn read(input: &[u8]) -> Result<Wanted<'_>, u8> {
     let budget = input[..4]
         .iter()
         .fold(0, |sum, byte| sum * 256 + u32::from(*byte));
-    let head = &input[4..4 + HEAD_SIZE];
+    let image = &input[4..];
+    let (head, memory) = image.split_at(HEAD_SIZE);
     let (code, state) = paper::load(head);
     if code != DONE {
         return Err(code);
     }
-    let memory = &input[4 + HEAD_SIZE..];
     Ok(Wanted {
         budget,
-        head,
+        image,
         state,
         memory,
     })
@@ -95,13 +97,14 @@ fn refused(input: &[u8], code: u8, given: &str) -> Verdict {
     Ok(judged)
 }
 
+/// The text of the image's run on the proved core, with the state that it left in the head.
 fn proved_text(wanted: &Wanted) -> Result<Option<String>, String> {
-    let mut head = wanted.head.to_vec();
-    let mut memory = wanted.memory.to_vec();
-    let Some((code, spent, steps)) = proved::run(&mut head, &mut memory, wanted.budget) else {
-        return Ok(None);
+    let mut image = wanted.image.to_vec();
+    let (code, spent, steps) = match proved::run_image(&mut image, wanted.budget) {
+        Some(numbers) => numbers,
+        None => return Ok(None),
     };
-    let (loaded, state) = paper::load(&head);
+    let (loaded, state) = paper::load(&image[..HEAD_SIZE]);
     same("the head that the proved core leaves", DONE, loaded)?;
     Ok(Some(paper::text(&Answer {
         code,

@@ -1,13 +1,12 @@
 //! A run by each judge: the second program's own, single steps added up, mGBA's
-//! steps added up, and the proved core's own.
+//! steps added up, and the plain and the proved core's own.
 
-use super::step::head_first;
 use super::Verdict;
-use crate::answer::{same, same_answer, same_bytes, same_head, Answer};
+use crate::answer::{same, same_answer, same_block, same_bytes, Answer};
 use crate::bench::{Bench, Judged};
 use crate::input::Input;
 use crate::paper;
-use crate::proved;
+use crate::{plain, proved};
 use second::{Mode, State};
 
 /// What a run answers and the memory that it leaves.
@@ -32,6 +31,7 @@ pub fn run(bench: &mut Bench, input: &Input) -> Verdict {
     Ok(Judged {
         second: true,
         mgba: mgba.is_some(),
+        plain: hold_to_plain(input, &ran)?,
         proved: hold_to_proved(input, &ran)?,
         paper: true,
     })
@@ -105,15 +105,24 @@ fn after(run: &Answer, step: &Answer) -> Answer {
     }
 }
 
-pub fn hold_to_proved(input: &Input, ran: &Ran) -> Result<bool, String> {
-    let mut head = paper::head(&input.state);
-    let mut memory = input.bytes.clone();
-    let Some(numbers) = proved::run(&mut head, &mut memory, input.number) else {
-        return Ok(false);
-    };
-    let code = head_first(&input.state, ran.answer.code);
-    let expected = Answer { code, ..ran.answer };
-    same_head("the proved core's run", &expected, numbers, &head)?;
-    same_bytes("the proved core's memory", &ran.memory, &memory)?;
+pub fn by_plain(state: State, memory: &[u8], budget: u32) -> Ran {
+    let mut memory = memory.to_vec();
+    let answer = plain::run(state, &mut memory, budget);
+    Ran { answer, memory }
+}
+
+pub fn hold_to_plain(input: &Input, ran: &Ran) -> Result<bool, String> {
+    let given = by_plain(input.state, &input.bytes, input.number);
+    same_run("the plain core's run", ran, &given)?;
     Ok(true)
+}
+
+pub fn hold_to_proved(input: &Input, ran: &Ran) -> Result<bool, String> {
+    let mut block = paper::block(&input.state);
+    let mut memory = input.bytes.clone();
+    if let Some(numbers) = proved::run(&mut block, &mut memory, input.number) {
+        same_block("the proved core's run", &ran.answer, numbers, &block)?;
+        same_bytes("the proved core's memory", &ran.memory, &memory)?;
+    }
+    Ok(proved::PRESENT)
 }

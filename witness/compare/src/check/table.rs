@@ -36,6 +36,7 @@ pub fn row(bench: &mut Bench, input: &Input) -> Verdict {
     Ok(Judged {
         second: true,
         mgba: mgba.is_some(),
+        plain: false,
         proved: proved.is_some(),
         paper,
     })
@@ -62,7 +63,7 @@ fn by_mgba(bench: &mut Bench, row: u32) -> Option<(u8, u8)> {
 fn run_row(bench: &mut Bench, row: u32, f: u8) -> Option<(u8, u8)> {
     let mut memory = vec![0; paper::MEMORY_SIZE];
     match row {
-        0..256 => memory[0] = row as u8,
+        0..=255 => memory[0] = row as u8,
         _ => memory[..2].copy_from_slice(&[paper::PREFIX, row as u8]),
     }
     let state = State {

@@ -3,10 +3,10 @@
 
 use crate::check::{field_digits, ROUTINE};
 use crate::context::{Context, Failure, Outcome};
+use crate::draw;
 use crate::input::{Input, Kind};
 use crate::paper::MEMORY_SIZE;
-use crate::random;
-use crate::rng::Rng;
+use random::Random;
 use second::{Ime, Mode, State};
 
 /// Digits of which a number is made: any, those that ripple, those in the middle.
@@ -31,7 +31,7 @@ pub fn adding(context: &mut Context) -> Outcome {
 type Fields = (Vec<u8>, Vec<u8>);
 
 /// Numbers drawn until they overflow, or don't, as wanted.
-fn drawn(rng: &mut Rng, n: usize, equal: bool, overflow: bool, pool: &[u8]) -> Fields {
+fn drawn(rng: &mut Random, n: usize, equal: bool, overflow: bool, pool: &[u8]) -> Fields {
     loop {
         let destination = number(rng, n, pool);
         let source = match equal {
@@ -44,7 +44,7 @@ fn drawn(rng: &mut Rng, n: usize, equal: bool, overflow: bool, pool: &[u8]) -> F
     }
 }
 
-fn number(rng: &mut Rng, n: usize, pool: &[u8]) -> Vec<u8> {
+fn number(rng: &mut Random, n: usize, pool: &[u8]) -> Vec<u8> {
     (0..n)
         .map(|_| 16 * rng.pick(pool) + rng.pick(pool))
         .collect()
@@ -56,7 +56,7 @@ fn overflows(destination: &[u8], source: &[u8]) -> bool {
     let digits = |field| field_digits(field).expect("drawn from digits");
     let pairs = digits(destination).into_iter().zip(digits(source));
     let decided = pairs.rev().map(|(x, y)| x + y).find(|sum| *sum != 9);
-    decided.is_some_and(|sum| sum > 9)
+    decided.map_or(false, |sum| sum > 9)
 }
 
 /// A carry through every digit: 99..99 + 1 and 09..99 + 1, or 99..99 and 49..99
@@ -77,7 +77,7 @@ fn rippling(n: usize, equal: bool, overflow: bool) -> Fields {
 fn add(context: &mut Context, n: usize, equal: bool, fields: &Fields) -> Outcome {
     let rng = &mut context.rng;
     let places = places(rng, n, equal);
-    let mut memory = random::noise(rng);
+    let mut memory = draw::noise(rng);
     memory[places.routine..][..ROUTINE.len()].copy_from_slice(&ROUTINE);
     memory[places.source..][..n].copy_from_slice(&fields.1);
     memory[places.destination..][..n].copy_from_slice(&fields.0);
@@ -100,7 +100,7 @@ struct Places {
 }
 
 /// Random places that meet the premises, often at the end of memory or touching.
-fn places(rng: &mut Rng, n: usize, equal: bool) -> Places {
+fn places(rng: &mut Random, n: usize, equal: bool) -> Places {
     loop {
         let routine = start(rng, ROUTINE.len());
         let destination = match rng.one_in(4) {
@@ -126,7 +126,7 @@ fn places(rng: &mut Rng, n: usize, equal: bool) -> Places {
 }
 
 /// Any start for so many bytes, the last possible one often.
-fn start(rng: &mut Rng, length: usize) -> usize {
+fn start(rng: &mut Random, length: usize) -> usize {
     let last = MEMORY_SIZE - length;
     match rng.one_in(8) {
         true => last,
@@ -135,7 +135,7 @@ fn start(rng: &mut Rng, length: usize) -> usize {
 }
 
 /// Anywhere, around $FFFF, in the routine, in the source, or beside the destination.
-fn stack(rng: &mut Rng, routine: usize, destination: usize, source: usize, n: usize) -> u16 {
+fn stack(rng: &mut Random, routine: usize, destination: usize, source: usize, n: usize) -> u16 {
     let anywhere = rng.word();
     rng.pick(&[
         anywhere,
@@ -168,7 +168,7 @@ fn allowed(places: &Places, n: usize) -> bool {
         && outside(stack.wrapping_add(1))
 }
 
-fn called(rng: &mut Rng, n: usize, places: &Places) -> State {
+fn called(rng: &mut Random, n: usize, places: &Places) -> State {
     let [h, l] = (places.destination as u16).to_be_bytes();
     let [d, e] = (places.source as u16).to_be_bytes();
     State {
@@ -181,7 +181,7 @@ fn called(rng: &mut Rng, n: usize, places: &Places) -> State {
         pc: places.routine as u16,
         ime: Ime::Off,
         mode: Mode::Running,
-        ..random::state(rng)
+        ..draw::state(rng)
     }
 }
 

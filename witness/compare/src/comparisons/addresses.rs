@@ -2,7 +2,7 @@
 
 use super::rows::{place, poke_constant};
 use crate::context::{Context, Outcome};
-use crate::random;
+use crate::draw;
 use second::{Ime, State};
 
 /// What takes on every value.
@@ -47,7 +47,7 @@ const FORMS: [(u32, Holder); 24] = [
 ];
 
 pub fn addresses(context: &mut Context) -> Outcome {
-    let background = random::noise(&mut context.rng);
+    let background = draw::noise(&mut context.rng);
     context.bench.lay(&background);
     for value in 0..=0xFFFF {
         for (row, holder) in FORMS {
@@ -60,7 +60,7 @@ pub fn addresses(context: &mut Context) -> Outcome {
 fn one(context: &mut Context, row: u32, holder: Holder, value: u16) -> Outcome {
     let mut state = State {
         ime: Ime::Off,
-        ..random::state(&mut context.rng)
+        ..draw::state(&mut context.rng)
     };
     let mut constant = context.rng.word();
     match holder {

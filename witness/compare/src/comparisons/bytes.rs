@@ -1,8 +1,8 @@
 //! Byte arithmetic on every operand there is.
 
 use crate::context::{Context, Outcome};
+use crate::draw;
 use crate::paper::PREFIX;
-use crate::random;
 use second::{Ime, State};
 
 const DAA: u8 = 0x27;
@@ -11,13 +11,13 @@ const PC: u16 = 0x4000;
 
 /// A state at the instruction, with random registers and the switch off.
 fn begin(context: &mut Context) -> State {
-    let background = random::noise(&mut context.rng);
+    let background = draw::noise(&mut context.rng);
     context.bench.lay(&background);
     State {
         pc: PC,
         ime: Ime::Off,
         h: 0xC0,
-        ..random::state(&mut context.rng)
+        ..draw::state(&mut context.rng)
     }
 }
 

@@ -1,8 +1,8 @@
 //! The interrupt switch, HALT, STOP and dispatch.
 
 use crate::context::{Context, Failure, Outcome};
+use crate::draw::{self, LIVE_MODES, SWITCHES};
 use crate::paper::{IE, IF, MEMORY_SIZE};
-use crate::random::{self, LIVE_MODES, SWITCHES};
 use second::{Ime, Mode, State};
 
 const NOP: u8 = 0x00;
@@ -118,7 +118,7 @@ const PROGRAM_COUNTERS: usize = 4;
 /// Every IE and IF at the stack pointers where a push meets one of them, and at
 /// a random one, from every live mode; then every PC and every SP.
 pub fn dispatch(context: &mut Context) -> Outcome {
-    let background = random::noise(&mut context.rng);
+    let background = draw::noise(&mut context.rng);
     context.bench.lay(&background);
     let requests = (0..32).flat_map(|enabled| (0..32).map(move |raised| (enabled, raised)));
     for requests in requests {
@@ -133,7 +133,7 @@ fn at_meeting_points(context: &mut Context, requests: (u8, u8), mode: Mode) -> O
     let anywhere = context.rng.word();
     for sp in MEETING_POINTS.into_iter().chain([anywhere]) {
         for _ in 0..PROGRAM_COUNTERS {
-            let pc = random::address(&mut context.rng);
+            let pc = draw::address(&mut context.rng);
             meet(context, requests, mode, sp, pc)?;
         }
     }
@@ -162,7 +162,7 @@ fn meet(context: &mut Context, requests: (u8, u8), mode: Mode, sp: u16, pc: u16)
         pc,
         mode,
         ime: Ime::On,
-        ..random::state(&mut context.rng)
+        ..draw::state(&mut context.rng)
     };
     let answer = context.step(state)?.answer;
     context.bench.rewind();
@@ -174,7 +174,7 @@ fn meet(context: &mut Context, requests: (u8, u8), mode: Mode, sp: u16, pc: u16)
 
 /// Halted without a request: one cycle, and nothing changes.
 pub fn idle(context: &mut Context) -> Outcome {
-    let background = random::noise(&mut context.rng);
+    let background = draw::noise(&mut context.rng);
     context.bench.lay(&background);
     for enabled in 0..=255_u8 {
         for ime in SWITCHES {
@@ -184,7 +184,7 @@ pub fn idle(context: &mut Context) -> Outcome {
                 let state = State {
                     ime,
                     mode: Mode::Halted,
-                    ..random::state(&mut context.rng)
+                    ..draw::state(&mut context.rng)
                 };
                 context.lone_step(state)?;
             }

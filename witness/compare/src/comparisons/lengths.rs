@@ -1,9 +1,9 @@
 //! Slices of every length around each limit, alone and beside another fault.
 
 use crate::context::{Context, Outcome};
+use crate::draw;
 use crate::input::{Input, Kind};
 use crate::paper::{self, BUDGET_LIMIT, HEAD_SIZE, IMAGE_SIZE, INPUT_SIZE, MEMORY_SIZE};
-use crate::random;
 use second::{Mode, State};
 
 /// Every limit with its neighbours, and nothing at all.
@@ -16,7 +16,7 @@ fn sizes() -> Vec<usize> {
 }
 
 pub fn lengths(context: &mut Context) -> Outcome {
-    let clean = random::state(&mut context.rng);
+    let clean = draw::state(&mut context.rng);
     let dirty = State { f: 0x0F, ..clean };
     let stopped = State {
         mode: Mode::Stopped,
@@ -34,7 +34,7 @@ pub fn lengths(context: &mut Context) -> Outcome {
 
 /// Heads, images and inputs: a right beginning, cut or drawn out to the size.
 fn bytes_alone(context: &mut Context, size: usize) -> Outcome {
-    let state = random::state(&mut context.rng);
+    let state = draw::state(&mut context.rng);
     for version in [1, 2] {
         let mut head = paper::head(&state).to_vec();
         head[0] = version;
@@ -47,6 +47,10 @@ fn bytes_alone(context: &mut Context, size: usize) -> Outcome {
             let mut bytes = bytes.clone();
             bytes.resize(size, 0);
             context.check(Input::bytes(kind, bytes))?;
+        }
+        head.resize(size, 0);
+        for budget in [1, BUDGET_LIMIT + 1] {
+            context.check(Input::run_image(head.clone(), budget))?;
         }
     }
     Ok(())

@@ -9,134 +9,95 @@ mod lengths;
 mod program;
 mod refusals;
 mod rows;
+mod run_image;
 mod runs;
 mod saved;
 mod table;
 mod words;
 mod wrap;
 
-use crate::context::{Context, Outcome};
+pub use run_image::second_runs;
 
+use crate::context::{Context, Outcome};
+use Peers::{Both, Mgba, Neither, Plain};
+
+#[derive(Clone, Copy)]
 pub struct Comparison {
     pub name: &'static str,
     pub about: &'static str,
-    /// Whether mGBA can judge some of its inputs. If it judges none, that fails.
-    pub mgba: bool,
+    pub peers: Peers,
     pub run: fn(&mut Context) -> Outcome,
 }
 
-const fn judged_by_mgba(
+/// Which of mGBA's core and the plain core can judge some of a comparison's inputs. One
+/// that can and judges none fails it.
+#[derive(Clone, Copy)]
+pub enum Peers {
+    Both,
+    Mgba,
+    Plain,
+    Neither,
+}
+
+impl Peers {
+    pub fn mgba(self) -> bool {
+        matches!(self, Both | Mgba)
+    }
+
+    pub fn plain(self) -> bool {
+        matches!(self, Both | Plain)
+    }
+}
+
+fn comparison(
     name: &'static str,
     about: &'static str,
+    peers: Peers,
     run: fn(&mut Context) -> Outcome,
 ) -> Comparison {
     Comparison {
         name,
         about,
-        mgba: true,
+        peers,
         run,
     }
 }
 
-const fn beyond_mgba(
-    name: &'static str,
-    about: &'static str,
-    run: fn(&mut Context) -> Outcome,
-) -> Comparison {
-    Comparison {
-        name,
-        about,
-        mgba: false,
-        run,
-    }
+/// All of them, in the order in which they are run.
+#[rustfmt::skip] // One line for each.
+pub fn all() -> [Comparison; 28] {
+    [
+        comparison("cases", "the twelve cases of document 01", Both, cases::cases),
+        comparison("table", "every row, and rows above 511", Mgba, table::table),
+        comparison("rows-running", "500 rows, random states, Running", Both, rows::running),
+        comparison("rows-repeat", "500 rows, random states, Repeat", Both, rows::repeat),
+        comparison("rows-woken", "500 rows, Halted with a request", Both, rows::woken),
+        comparison("daa", "DAA on every A and F", Both, bytes::daa),
+        comparison("alu", "eight operations, every A, operand, carry", Both, bytes::alu),
+        comparison("one-byte", "INC, DEC, rotates, every byte and F", Both, bytes::one_byte),
+        comparison("add-hl", "ADD HL at every carry edge", Both, words::add_hl),
+        comparison("add-sp", "ADD SP, LD HL,SP+e8: every low byte and e8", Both, words::add_sp),
+        comparison("wrap", "PC, SP and two-byte accesses across $FFFF", Both, wrap::wrap),
+        comparison("addresses", "every address, wherever one is held", Both, addresses::addresses),
+        comparison("sequences", "EI, DI, RETI, HALT, STOP in sequence", Both, interrupts::sequences),
+        comparison("dispatch", "IE, IF and the stack at every meeting", Both, interrupts::dispatch),
+        comparison("idle", "Halted without a request", Plain, interrupts::idle),
+        comparison("undefined", "the eleven undefined bytes", Both, refusals::undefined),
+        comparison("stopped", "a step that is due when Stopped", Plain, refusals::stopped),
+        comparison("dirty", "low bits of F that are not 0", Plain, refusals::dirty),
+        comparison("any", "any state and memory at all", Both, runs::any),
+        comparison("walks", "steps one after the other", Both, runs::walks),
+        comparison("runs", "random runs", Both, runs::runs),
+        comparison("budgets", "budgets at both limits", Both, runs::budgets),
+        comparison("run-image", "images run where they lie", Both, run_image::run_image),
+        comparison("adding", "the adding routine, n from 1 to 256", Both, adding::adding),
+        comparison("lengths", "every length one off each limit", Plain, lengths::lengths),
+        comparison("heads", "each head byte at each of its values", Neither, saved::heads),
+        comparison("images", "images opened and saved", Neither, saved::images),
+        comparison("program", "the program's text", Both, program::program),
+    ]
 }
 
-pub const ALL: [Comparison; 27] = [
-    judged_by_mgba("cases", "the twelve cases of document 01", cases::cases),
-    judged_by_mgba("table", "every row, and rows above 511", table::table),
-    judged_by_mgba(
-        "rows-running",
-        "500 rows, random states, Running",
-        rows::running,
-    ),
-    judged_by_mgba(
-        "rows-repeat",
-        "500 rows, random states, Repeat",
-        rows::repeat,
-    ),
-    judged_by_mgba("rows-woken", "500 rows, Halted with a request", rows::woken),
-    judged_by_mgba("daa", "DAA on every A and F", bytes::daa),
-    judged_by_mgba(
-        "alu",
-        "eight operations, every A, operand, carry",
-        bytes::alu,
-    ),
-    judged_by_mgba(
-        "one-byte",
-        "INC, DEC, rotates, every byte and F",
-        bytes::one_byte,
-    ),
-    judged_by_mgba("add-hl", "ADD HL at every carry edge", words::add_hl),
-    judged_by_mgba(
-        "add-sp",
-        "ADD SP, LD HL,SP+e8: every low byte and e8",
-        words::add_sp,
-    ),
-    judged_by_mgba(
-        "wrap",
-        "PC, SP and two-byte accesses across $FFFF",
-        wrap::wrap,
-    ),
-    judged_by_mgba(
-        "addresses",
-        "every address, wherever one is held",
-        addresses::addresses,
-    ),
-    judged_by_mgba(
-        "sequences",
-        "EI, DI, RETI, HALT, STOP in sequence",
-        interrupts::sequences,
-    ),
-    judged_by_mgba(
-        "dispatch",
-        "IE, IF and the stack at every meeting",
-        interrupts::dispatch,
-    ),
-    beyond_mgba("idle", "Halted without a request", interrupts::idle),
-    judged_by_mgba(
-        "undefined",
-        "the eleven undefined bytes",
-        refusals::undefined,
-    ),
-    beyond_mgba(
-        "stopped",
-        "a step that is due when Stopped",
-        refusals::stopped,
-    ),
-    beyond_mgba("dirty", "low bits of F that are not 0", refusals::dirty),
-    judged_by_mgba("any", "any state and memory at all", runs::any),
-    judged_by_mgba("walks", "steps one after the other", runs::walks),
-    judged_by_mgba("runs", "random runs", runs::runs),
-    judged_by_mgba("budgets", "budgets at both limits", runs::budgets),
-    judged_by_mgba(
-        "adding",
-        "the adding routine, n from 1 to 256",
-        adding::adding,
-    ),
-    beyond_mgba(
-        "lengths",
-        "every length one off each limit",
-        lengths::lengths,
-    ),
-    beyond_mgba(
-        "heads",
-        "each head byte at each of its values",
-        saved::heads,
-    ),
-    beyond_mgba("images", "images opened and saved", saved::images),
-    judged_by_mgba("program", "the program's text", program::program),
-];
-
-pub fn find(name: &str) -> Option<&'static Comparison> {
-    ALL.iter().find(|comparison| comparison.name == name)
+pub fn find(name: &str) -> Option<Comparison> {
+    all().into_iter().find(|comparison| comparison.name == name)
 }

@@ -1,15 +1,15 @@
 //! Steps that are refused: nothing changes, and the number says why.
 
 use crate::context::{Context, Failure, Outcome};
+use crate::draw::{self, LIVE_MODES, SWITCHES};
 use crate::paper::{self, IE, IF, UNDEFINED_BYTES};
-use crate::random::{self, LIVE_MODES, SWITCHES};
 use second::{Ime, Mode, State};
 
 const STATES: usize = 50;
 const ANY_STATES: usize = 20_000;
 
 fn lay_noise(context: &mut Context) {
-    let background = random::noise(&mut context.rng);
+    let background = draw::noise(&mut context.rng);
     context.bench.lay(&background);
 }
 
@@ -47,7 +47,7 @@ fn meet_undefined(context: &mut Context, byte: u8, mode: Mode, ime: Ime) -> Outc
         pc: context.rng.word() & 0xFEFF,
         mode,
         ime,
-        ..random::state(&mut context.rng)
+        ..draw::state(&mut context.rng)
     };
     let requests = match (mode, ime) {
         (Mode::Halted, _) => 0x1F,
@@ -66,7 +66,7 @@ pub fn stopped(context: &mut Context) -> Outcome {
     for _ in 0..ANY_STATES {
         let state = State {
             mode: Mode::Stopped,
-            ..random::state(&mut context.rng)
+            ..draw::state(&mut context.rng)
         };
         let requests = context.rng.byte();
         context.bench.poke(IE, requests);
@@ -85,7 +85,7 @@ pub fn dirty(context: &mut Context) -> Outcome {
                 let state = State {
                     f,
                     mode,
-                    ..random::state(&mut context.rng)
+                    ..draw::state(&mut context.rng)
                 };
                 refused(context, state, paper::FLAG_BITS)?;
             }

@@ -2,8 +2,8 @@
 
 use crate::bench::Bench;
 use crate::context::{Context, Failure, Outcome};
+use crate::draw::{self, EDGES};
 use crate::paper::{self, IE, IF, PREFIX, UNDEFINED_BYTES};
-use crate::random::{self, EDGES};
 use second::{Ime, Mode, State};
 
 const STATES: u32 = 2_000;
@@ -33,7 +33,7 @@ pub fn woken(context: &mut Context) -> Outcome {
 }
 
 fn rows(context: &mut Context, mode: Mode, states: u32) -> Outcome {
-    let background = random::noise(&mut context.rng);
+    let background = draw::noise(&mut context.rng);
     context.bench.lay(&background);
     for row in runnable() {
         for _ in 0..states {
@@ -44,7 +44,7 @@ fn rows(context: &mut Context, mode: Mode, states: u32) -> Outcome {
 }
 
 fn one(context: &mut Context, row: u32, mode: Mode) -> Outcome {
-    let mut state = random::state(&mut context.rng);
+    let mut state = draw::state(&mut context.rng);
     state.mode = mode;
     near_itself(context, &mut state);
     scatter(context, &state);

@@ -1,17 +1,17 @@
 //! Random steps, one alone and many in a row, and runs under budgets.
 
 use crate::context::{Context, Outcome};
+use crate::draw::{self, LIVE_MODES};
 use crate::input::Input;
 use crate::paper::{BUDGET_LIMIT, IE, IF, MEMORY_SIZE, UNDEFINED_BYTES};
-use crate::random::{self, LIVE_MODES};
-use crate::rng::Rng;
+use random::Random;
 use second::{Mode, State};
 
 const ANY_STATES: usize = 300_000;
 
 /// States of any kind, refused ones too, on the same noise.
 pub fn any(context: &mut Context) -> Outcome {
-    let background = random::noise(&mut context.rng);
+    let background = draw::noise(&mut context.rng);
     context.bench.lay(&background);
     for _ in 0..ANY_STATES {
         let state = any_state(&mut context.rng);
@@ -21,8 +21,8 @@ pub fn any(context: &mut Context) -> Outcome {
     Ok(())
 }
 
-fn any_state(rng: &mut Rng) -> State {
-    let mut state = random::state(rng);
+pub fn any_state(rng: &mut Random) -> State {
+    let mut state = draw::state(rng);
     state.mode = rng.pick(&LIVE_MODES);
     if rng.one_in(16) {
         state.mode = Mode::Stopped;
@@ -59,15 +59,15 @@ pub fn walks(context: &mut Context) -> Outcome {
 }
 
 /// Noise, tame three times in four.
-fn some_noise(rng: &mut Rng) -> Vec<u8> {
+pub fn some_noise(rng: &mut Random) -> Vec<u8> {
     match rng.one_in(4) {
-        true => random::noise(rng),
-        false => random::tame_noise(rng),
+        true => draw::noise(rng),
+        false => draw::tame_noise(rng),
     }
 }
 
 fn walk(context: &mut Context) -> Outcome {
-    let mut state = random::state(&mut context.rng);
+    let mut state = draw::state(&mut context.rng);
     state.mode = context.rng.pick(&LIVE_MODES);
     for _ in 0..LONGEST_WALK {
         if context.rng.one_in(16) {
@@ -97,7 +97,7 @@ pub fn runs(context: &mut Context) -> Outcome {
     Ok(())
 }
 
-const BUDGETS: [u32; 12] = [
+pub const BUDGETS: [u32; 12] = [
     0,
     1,
     2,
@@ -124,7 +124,7 @@ pub fn budgets(context: &mut Context) -> Outcome {
 
 const AT: usize = 0x0200;
 
-fn programs(rng: &mut Rng) -> Vec<(State, Vec<u8>)> {
+pub fn programs(rng: &mut Random) -> Vec<(State, Vec<u8>)> {
     let start = State {
         pc: AT as u16,
         sp: 0xE000,
@@ -149,8 +149,8 @@ fn programs(rng: &mut Rng) -> Vec<(State, Vec<u8>)> {
         in_mode(Mode::Repeat, with(&[0x3C])),
         in_mode(Mode::Stopped, with(&[])),
         (dirty, code(&[])),
-        (random::state(rng), random::tame_noise(rng)),
-        (random::state(rng), random::tame_noise(rng)),
+        (draw::state(rng), draw::tame_noise(rng)),
+        (draw::state(rng), draw::tame_noise(rng)),
     ]
 }
 
@@ -171,7 +171,7 @@ mod tests {
 
     #[test]
     fn the_endless_programs_are_endless() {
-        let programs = programs(&mut Rng::new(1, "budgets"));
+        let programs = programs(&mut Random::new(1, "budgets"));
         let full = |(state, memory): &(State, Vec<u8>)| {
             let ran = second::run(*state, &mut memory.clone(), BUDGET_LIMIT);
             ran.code == 0 && ran.spent >= BUDGET_LIMIT

@@ -1,11 +1,11 @@
 //! Heads and images: every value of every byte, and there and back.
 
 use crate::context::{Context, Outcome};
+use crate::draw;
 use crate::input::{Input, Kind};
 use crate::paper::{self, HEAD_SIZE, IMAGE_SIZE};
 use crate::proved;
-use crate::random;
-use crate::rng::Rng;
+use random::Random;
 use second::{Ime, Mode, State};
 
 const HEADS: usize = 8;
@@ -30,7 +30,7 @@ pub fn heads(context: &mut Context) -> Outcome {
 }
 
 /// The all-zero state, the fullest one, and random ones in every mode.
-fn states(rng: &mut Rng) -> Vec<State> {
+fn states(rng: &mut Random) -> Vec<State> {
     let full = State {
         a: 0xFF,
         f: 0xF0,
@@ -48,7 +48,7 @@ fn states(rng: &mut Rng) -> Vec<State> {
     let mut states = vec![State::default(), full];
     while states.len() < HEADS {
         let mode = rng.pick(&[Mode::Running, Mode::Repeat, Mode::Halted, Mode::Stopped]);
-        let state = random::state(rng);
+        let state = draw::state(rng);
         states.push(State { mode, ..state });
     }
     states
@@ -64,7 +64,7 @@ fn load(context: &mut Context, head: &[u8], faults: &[(usize, u8)]) -> Outcome {
 }
 
 /// One fault of each kind: version, block lengths, codes, low bits of F.
-const FAULTS: [(usize, u8); 9] = [
+pub const FAULTS: [(usize, u8); 9] = [
     (0, 2),
     (1, 1),
     (4, 15),
@@ -86,20 +86,34 @@ fn two_faults(context: &mut Context, head: &[u8]) -> Outcome {
     Ok(())
 }
 
-/// State blocks with codes out of range, which only the C interface can be given.
+/// Where the codes of IME and mode stand in a block, and F.
+const IME_PLACE: usize = 12;
+const MODE_PLACE: usize = 13;
+const F_PLACE: usize = 1;
+
+/// State blocks with codes out of range and low bits of F, which only the C interface can
+/// be given: each byte at each of its values, alone and beside a fault in F.
 fn blocks(context: &mut Context) -> Outcome {
     if !proved::PRESENT {
         return Ok(());
     }
-    for place in [1, 12, 13] {
-        for value in 0..=255 {
-            for room in [HEAD_SIZE as u32 - 1, HEAD_SIZE as u32] {
-                let mut block = paper::block(&State::default());
-                block[place] = value;
-                let block = block.to_vec();
-                context.check(Input::new(Kind::SaveBlock, State::default(), room, block))?;
-            }
+    for value in 0..=255 {
+        for place in [F_PLACE, IME_PLACE, MODE_PLACE] {
+            block(context, &[(place, value)])?;
+            block(context, &[(F_PLACE, 0x01), (place, value)])?;
         }
+    }
+    Ok(())
+}
+
+fn block(context: &mut Context, faults: &[(usize, u8)]) -> Outcome {
+    let mut block = paper::block(&State::default()).to_vec();
+    for (place, value) in faults {
+        block[*place] = *value;
+    }
+    for room in [HEAD_SIZE as u32 - 1, HEAD_SIZE as u32] {
+        let input = Input::new(Kind::Block, State::default(), room, block.clone());
+        context.check(input)?;
     }
     Ok(())
 }
@@ -108,8 +122,8 @@ const IMAGES: usize = 200;
 
 /// Every value of every head byte in an image; and random images there and back.
 pub fn images(context: &mut Context) -> Outcome {
-    let memory = random::noise(&mut context.rng);
-    let state = random::state(&mut context.rng);
+    let memory = draw::noise(&mut context.rng);
+    let state = draw::state(&mut context.rng);
     let image = [&paper::head(&state)[..], &memory].concat();
     for place in 0..HEAD_SIZE {
         for value in 0..=255 {
@@ -126,8 +140,8 @@ pub fn images(context: &mut Context) -> Outcome {
 
 /// The image that is opened is what document 01 says the saved one is.
 fn there_and_back(context: &mut Context) -> Outcome {
-    let memory = random::noise(&mut context.rng);
-    let state = random::state(&mut context.rng);
+    let memory = draw::noise(&mut context.rng);
+    let state = draw::state(&mut context.rng);
     let image = [&paper::head(&state)[..], &memory].concat();
     context.check(Input::new(
         Kind::SaveImage,

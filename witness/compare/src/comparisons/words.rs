@@ -1,7 +1,7 @@
 //! The additions of 16 bits, on both sides of every carry.
 
 use crate::context::{Context, Outcome};
-use crate::random;
+use crate::draw;
 use second::{Ime, State};
 
 const PC: u16 = 0x4000;
@@ -11,12 +11,12 @@ const ADD_SP: u8 = 0xE8;
 const LD_HL_SP: u8 = 0xF8;
 
 fn begin(context: &mut Context) -> State {
-    let background = random::noise(&mut context.rng);
+    let background = draw::noise(&mut context.rng);
     context.bench.lay(&background);
     State {
         pc: PC,
         ime: Ime::Off,
-        ..random::state(&mut context.rng)
+        ..draw::state(&mut context.rng)
     }
 }
 

@@ -2,7 +2,7 @@
 
 use super::rows::{place, poke_constant, runnable};
 use crate::context::{Context, Outcome};
-use crate::random;
+use crate::draw;
 use second::{Mode, State};
 
 const PROGRAM: [u16; 5] = [0xFFFC, 0xFFFD, 0xFFFE, 0xFFFF, 0x0000];
@@ -11,7 +11,7 @@ const POINTER: [u16; 5] = [0xFFFD, 0xFFFE, 0xFFFF, 0x0000, 0x0001];
 const TIMES: usize = 4;
 
 pub fn wrap(context: &mut Context) -> Outcome {
-    let background = random::noise(&mut context.rng);
+    let background = draw::noise(&mut context.rng);
     context.bench.lay(&background);
     for row in runnable() {
         for pc in PROGRAM {
@@ -31,7 +31,7 @@ fn some(context: &mut Context, row: u32, pc: u16, sp: u16, mode: Mode) -> Outcom
             pc,
             sp,
             mode,
-            ..random::state(&mut context.rng)
+            ..draw::state(&mut context.rng)
         };
         [state.b, state.c] = context.rng.pick(&POINTER).to_be_bytes();
         [state.d, state.e] = context.rng.pick(&POINTER).to_be_bytes();

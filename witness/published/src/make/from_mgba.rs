@@ -1,9 +1,9 @@
 //! Random cases for each row of the opcode table, answered by mGBA's core.
 
 use super::place::{empty_folder, new_file};
-use super::random::Random;
 use super::write::{case_text, file_text, Made};
 use mgba::Core;
+use random::Random;
 use second::{Ime, Mode, State};
 use std::collections::BTreeMap;
 use std::io::Write;
@@ -14,6 +14,11 @@ const FIRST_PREFIXED: u32 = 256;
 const ROWS: u32 = 512;
 const IF: u16 = 0xFF0F;
 const IE: u16 = 0xFFFF;
+
+/// Words at which something in the machine ends, wraps or has a meaning.
+const EDGES: [u16; 10] = [
+    0x0000, 0x0001, 0x0002, 0x00FF, 0x0FFF, 0x7FFF, 0xFF0F, 0xFF10, 0xFFFE, 0xFFFF,
+];
 
 /// The bytes that a case lists.
 type Ram = BTreeMap<u16, u8>;
@@ -46,7 +51,7 @@ fn stem(row: u32) -> String {
 }
 
 fn file(core: &mut Core, row: u32, seed: u64, cases: u64) -> Result<String, String> {
-    let mut random = Random::new(seed, row);
+    let mut random = Random::new(seed, &stem(row));
     let texts: Result<Vec<_>, _> = (0..cases)
         .map(|index| {
             let name = format!("{} {index:04}", stem(row));
@@ -81,9 +86,9 @@ fn made(core: &mut Core, row: u32, name: String, random: &mut Random) -> Result<
 }
 
 fn random_state(random: &mut Random) -> State {
-    let [b, c] = random.word().to_be_bytes();
-    let [d, e] = random.word().to_be_bytes();
-    let [h, l] = random.word().to_be_bytes();
+    let [b, c] = random_word(random).to_be_bytes();
+    let [d, e] = random_word(random).to_be_bytes();
+    let [h, l] = random_word(random).to_be_bytes();
     State {
         a: random.byte(),
         f: random.byte() & 0xF0,
@@ -93,10 +98,18 @@ fn random_state(random: &mut Random) -> State {
         e,
         h,
         l,
-        sp: random.word(),
-        pc: random.word(),
-        ime: if random.bit() { Ime::On } else { Ime::Off },
+        sp: random_word(random),
+        pc: random_word(random),
+        ime: random.pick(&[Ime::On, Ime::Off]),
         mode: Mode::Running,
+    }
+}
+
+/// A word; one in eight lies at an edge.
+fn random_word(random: &mut Random) -> u16 {
+    match random.one_in(8) {
+        true => random.pick(&EDGES),
+        false => random.word(),
     }
 }
 

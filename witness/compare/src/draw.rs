@@ -1,7 +1,7 @@
 //! Random states and memories, with a liking for the edges.
 
 use crate::paper::{MEMORY_SIZE, STOP, UNDEFINED_BYTES};
-use crate::rng::Rng;
+use random::Random;
 use second::{Ime, Mode, State};
 
 /// Addresses where something turns over or has a meaning.
@@ -15,7 +15,7 @@ pub const SWITCHES: [Ime; 3] = [Ime::Off, Ime::Arming, Ime::On];
 /// Every mode in which a step can be accepted.
 pub const LIVE_MODES: [Mode; 3] = [Mode::Running, Mode::Repeat, Mode::Halted];
 
-pub fn address(rng: &mut Rng) -> u16 {
+pub fn address(rng: &mut Random) -> u16 {
     match rng.one_in(4) {
         true => rng.pick(&EDGES),
         false => rng.word(),
@@ -23,7 +23,7 @@ pub fn address(rng: &mut Rng) -> u16 {
 }
 
 /// Any registers, valid F and any switch; Running.
-pub fn state(rng: &mut Rng) -> State {
+pub fn state(rng: &mut Random) -> State {
     let mut state = State {
         a: rng.byte(),
         f: rng.byte() & 0xF0,
@@ -39,12 +39,12 @@ pub fn state(rng: &mut Rng) -> State {
 }
 
 /// A memory of any bytes.
-pub fn noise(rng: &mut Rng) -> Vec<u8> {
+pub fn noise(rng: &mut Random) -> Vec<u8> {
     rng.bytes(MEMORY_SIZE)
 }
 
 /// The same without bytes that would end a run.
-pub fn tame_noise(rng: &mut Rng) -> Vec<u8> {
+pub fn tame_noise(rng: &mut Random) -> Vec<u8> {
     let mut memory = noise(rng);
     for byte in &mut memory {
         while *byte == STOP || UNDEFINED_BYTES.contains(byte) {
