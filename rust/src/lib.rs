@@ -35,7 +35,7 @@
 //! # Ok::<(), trnadulek::Ended>(())
 //! ```
 //!
-//! The feature `std`, which is on by default, gives the errors [`std::error::Error`]. Without it the
+//! The feature `std`, which is on by default, gives the errors `std::error::Error`. Without it the
 //! crate is `no_std`.
 
 #![no_std]

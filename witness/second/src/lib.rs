@@ -1,7 +1,7 @@
 //! Witness one: a second program for the SM83, written from document 01 and
 //! the rgbds instruction reference alone, to be held against the proved core.
 //!
-//! Every opcode byte has a case of its own ([`opcodes`] and [`prefixed`]), so
+//! Every opcode byte has a case of its own (`opcodes` and `prefixed`), so
 //! the opcode grid of document 01 is nowhere used to decode.
 
 #![forbid(unsafe_code)]

@@ -91,7 +91,7 @@ fn forms() -> Vec<Form> {
     forms
 }
 
-/// The opcode at PC and the value where its operand is: B C D E H L [HL] A.
+/// The opcode at PC and the value where its operand is: `B C D E H L [HL] A`.
 fn put(context: &mut Context, form: &Form, mut state: State, value: u8) -> State {
     match form.operand {
         0 => state.b = value,

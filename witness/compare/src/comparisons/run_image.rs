@@ -54,7 +54,7 @@ fn under_both_budgets(context: &mut Context, image: &[u8], faults: &[(usize, u8)
     Ok(())
 }
 
-/// LD HL,$C000; INC [HL]; INC [HL]; STOP.
+/// `LD HL,$C000; INC [HL]; INC [HL]; STOP`.
 const GAME: [u8; 7] = [0x21, 0x00, 0xC0, 0x34, 0x34, 0x10, 0x00];
 const FRAME: u32 = 17_556;
 
