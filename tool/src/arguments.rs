@@ -1,247 +1,160 @@
-//! From the command line to a command.
+//! From the command line to words and options.
 
-use std::ffi::OsString;
-use std::path::PathBuf;
-
-use trnadulek::Cpu;
+use std::ffi::{OsStr, OsString};
+use std::os::unix::ffi::OsStrExt;
 
 use crate::trouble::Trouble;
-use crate::words::{self, IMES, MODES};
+use crate::words;
 
-pub enum Command {
-    Help,
-    Make {
-        out: PathBuf,
-        from: From,
-        cpu: Cpu,
-        replace: bool,
-    },
-    Show(PathBuf),
-    Check(PathBuf),
-    Run {
-        image: PathBuf,
-        budget: u64,
-        out: PathBuf,
-        replace: bool,
-    },
-    Compare(PathBuf, PathBuf),
+struct Known {
+    name: &'static str,
+    /// How many values it takes, and what they are.
+    values: usize,
+    wants: &'static str,
+    /// Whether it can be given more than once.
+    often: bool,
 }
 
-/// What the memory of an image is made from.
-pub enum From {
-    Dump(PathBuf),
-    Cartridge(PathBuf),
+const fn flag(name: &'static str) -> Known {
+    known(name, 0, "no value")
 }
 
-/// The registers when the first console model comes to a cartridge.
-const FIRST_MODEL: Cpu = Cpu {
-    a: 0x01,
-    f: 0xB0,
-    b: 0x00,
-    c: 0x13,
-    d: 0x00,
-    e: 0xD8,
-    h: 0x01,
-    l: 0x4D,
-    sp: 0xFFFE,
-    pc: 0x0100,
-    ime: trnadulek::Ime::Off,
-    mode: trnadulek::Mode::Running,
-};
+const fn known(name: &'static str, values: usize, wants: &'static str) -> Known {
+    Known {
+        name,
+        values,
+        wants,
+        often: false,
+    }
+}
 
-const VALUED: [&str; 10] = [
-    "--dump",
-    "--cartridge",
-    "--af",
-    "--bc",
-    "--de",
-    "--hl",
-    "--sp",
-    "--pc",
-    "--ime",
-    "--mode",
+const fn often(known: Known) -> Known {
+    Known {
+        often: true,
+        ..known
+    }
+}
+
+const KNOWN: [Known; 18] = [
+    flag("--help"),
+    flag("--version"),
+    flag("--replace"),
+    flag("--replace-ended"),
+    flag("--all"),
+    known("--dump", 1, "a file"),
+    known("--cartridge", 1, "a file"),
+    known("--af", 1, "a value"),
+    known("--bc", 1, "a value"),
+    known("--de", 1, "a value"),
+    known("--hl", 1, "a value"),
+    known("--sp", 1, "a value"),
+    known("--pc", 1, "a value"),
+    known("--ime", 1, "a value"),
+    known("--mode", 1, "a value"),
+    known("--at", 1, "an address"),
+    often(known("--bytes", 1, "ADDRESS..ADDRESS")),
+    often(known("--score", 2, "an address and a length")),
 ];
 
 /// What was given, in order and not yet understood.
 #[derive(Default)]
-struct Given {
-    plain: Vec<OsString>,
-    valued: Vec<(&'static str, OsString)>,
-    replace: bool,
-    help: bool,
+pub struct Given {
+    pub plain: Vec<OsString>,
+    options: Vec<(&'static str, Vec<OsString>)>,
 }
 
-pub fn read(arguments: impl Iterator<Item = OsString>) -> Result<Command, Trouble> {
-    let mut given = sort(arguments)?;
-    if given.help {
-        return Ok(Command::Help);
-    }
-    if given.plain.is_empty() {
-        return Err(usage("which command: make, show, check, run or compare?"));
-    }
-    let name = given.plain.remove(0);
-    match name.to_str().unwrap_or_default() {
-        "make" => make(given),
-        "show" => {
-            let [file] = given.names("show FILE", false)?;
-            Ok(Command::Show(file))
-        }
-        "check" => {
-            let [file] = given.names("check FILE", false)?;
-            Ok(Command::Check(file))
-        }
-        "run" => {
-            let replace = given.replace;
-            let [image, budget, out] = given.names("run IMAGE BUDGET OUT", true)?;
-            Ok(Command::Run {
-                image,
-                budget: cycles(&budget.into_os_string())?,
-                out,
-                replace,
-            })
-        }
-        "compare" => {
-            let [a, b] = given.names("compare A B", false)?;
-            Ok(Command::Compare(a, b))
-        }
-        _ => Err(usage(&format!(
-            "there is no command {}",
-            words::name(name.as_ref())
-        ))),
-    }
-}
-
-fn sort(mut arguments: impl Iterator<Item = OsString>) -> Result<Given, Trouble> {
+pub fn sort(mut arguments: impl Iterator<Item = OsString>) -> Result<Given, Trouble> {
     let mut given = Given::default();
     while let Some(argument) = arguments.next() {
-        match argument.to_str() {
-            Some("--") => given.plain.extend(arguments.by_ref()),
-            Some("--help" | "-h") => given.help = true,
-            Some("--replace") => given.replace = true,
-            Some(text) if text.starts_with('-') => {
-                let Some(option) = VALUED.into_iter().find(|option| *option == text) else {
-                    let shown = words::name(argument.as_ref());
-                    return Err(usage(&format!("there is no option {shown}")));
-                };
-                if given.valued.iter().any(|(known, _)| *known == option) {
-                    return Err(usage(&format!("{option} is given twice")));
-                }
-                let Some(value) = arguments.next() else {
-                    return Err(usage(&format!("{option} wants a value")));
-                };
-                given.valued.push((option, value));
-            }
-            _ => given.plain.push(argument),
+        let bytes = argument.as_bytes();
+        if bytes == b"--" {
+            given.plain.extend(arguments.by_ref());
+        } else if bytes.starts_with(b"-") && bytes.len() > 1 {
+            given.take(&argument, &mut arguments)?;
+        } else {
+            given.plain.push(argument);
         }
     }
     Ok(given)
 }
 
-impl Given {
-    /// The plain arguments of a command that takes no options, or --replace alone.
-    fn names<const N: usize>(self, form: &str, writes: bool) -> Result<[PathBuf; N], Trouble> {
-        if let Some((option, _)) = self.valued.first() {
-            return Err(usage(&format!("{option} is for make alone")));
-        }
-        if self.replace && !writes {
-            return Err(usage("--replace is for make and run alone"));
-        }
-        plain(self.plain, form)
+/// An option's name, and what stands behind `=`.
+fn split(argument: &OsStr) -> (&OsStr, Option<OsString>) {
+    let bytes = argument.as_bytes();
+    match bytes.iter().position(|byte| *byte == b'=') {
+        Some(at) => (
+            OsStr::from_bytes(&bytes[..at]),
+            Some(OsStr::from_bytes(&bytes[at + 1..]).to_os_string()),
+        ),
+        None => (argument, None),
     }
 }
 
-fn plain<const N: usize>(given: Vec<OsString>, form: &str) -> Result<[PathBuf; N], Trouble> {
-    let paths: Vec<PathBuf> = given.into_iter().map(PathBuf::from).collect();
-    paths
-        .try_into()
-        .map_err(|_| usage(&format!("the form is: trnadulek-tool {form}")))
-}
-
-fn make(given: Given) -> Result<Command, Trouble> {
-    let form = "make OUT (--dump FILE | --cartridge FILE)";
-    let [out] = plain(given.plain, form)?;
-    let mut from = None;
-    for (option, value) in &given.valued {
-        let file = PathBuf::from(value);
-        let named = match *option {
-            "--dump" => From::Dump(file),
-            "--cartridge" => From::Cartridge(file),
-            _ => continue,
-        };
-        if from.replace(named).is_some() {
-            return Err(usage("a dump or a cartridge, not both"));
-        }
-    }
-    let mut cpu = match from {
-        Some(From::Dump(_)) => Cpu::default(),
-        Some(From::Cartridge(_)) => FIRST_MODEL,
-        None => return Err(usage(&format!("the form is: trnadulek-tool {form}"))),
+fn find(name: &OsStr) -> Result<&'static Known, Trouble> {
+    let name = if name == "-h" {
+        OsStr::new("--help")
+    } else {
+        name
     };
-    for (option, value) in &given.valued {
-        set(&mut cpu, option, value)?;
+    KNOWN
+        .iter()
+        .find(|known| OsStr::new(known.name) == name)
+        .ok_or_else(|| Trouble::usage(&format!("there is no option {}", words::typed(name))))
+}
+
+impl Given {
+    /// An option, its first value behind `=` or, as all others, the argument after it.
+    fn take(
+        &mut self,
+        argument: &OsStr,
+        arguments: &mut impl Iterator<Item = OsString>,
+    ) -> Result<(), Trouble> {
+        let (name, first) = split(argument);
+        let known = find(name)?;
+        let name = known.name;
+        if self.has(name) && !known.often {
+            return Err(Trouble::usage(&format!("{name} is given twice")));
+        }
+        if known.values == 0 && first.is_some() {
+            return Err(Trouble::usage(&format!("{name} takes no value")));
+        }
+        let values = first.into_iter().chain(arguments).take(known.values);
+        let values: Vec<OsString> = values.collect();
+        if values.len() < known.values {
+            return Err(Trouble::usage(&format!("{name} wants {}", known.wants)));
+        }
+        self.options.push((name, values));
+        Ok(())
     }
-    Ok(Command::Make {
-        out,
-        from: from.expect("looked at above"),
-        cpu,
-        replace: given.replace,
-    })
-}
 
-fn set(cpu: &mut Cpu, option: &str, value: &OsString) -> Result<(), Trouble> {
-    match option {
-        "--af" => [cpu.a, cpu.f] = word(option, value)?.to_be_bytes(),
-        "--bc" => [cpu.b, cpu.c] = word(option, value)?.to_be_bytes(),
-        "--de" => [cpu.d, cpu.e] = word(option, value)?.to_be_bytes(),
-        "--hl" => [cpu.h, cpu.l] = word(option, value)?.to_be_bytes(),
-        "--sp" => cpu.sp = word(option, value)?,
-        "--pc" => cpu.pc = word(option, value)?,
-        "--ime" => cpu.ime = named(option, value, &IMES)?,
-        "--mode" => cpu.mode = named(option, value, &MODES)?,
-        _ => {}
+    pub fn has(&self, name: &str) -> bool {
+        self.options.iter().any(|(given, _)| *given == name)
     }
-    Ok(())
-}
 
-/// One to four hexadecimal digits, after $ or 0x or nothing.
-fn word(option: &str, value: &OsString) -> Result<u16, Trouble> {
-    let text = value.to_str().unwrap_or_default();
-    let digits = text
-        .strip_prefix('$')
-        .or_else(|| text.strip_prefix("0x"))
-        .unwrap_or(text);
-    let sound = (1..=4).contains(&digits.len()) && digits.chars().all(|c| c.is_ascii_hexdigit());
-    match u16::from_str_radix(digits, 16) {
-        Ok(number) if sound => Ok(number),
-        _ => Err(usage(&format!(
-            "{option} wants up to four hexadecimal digits"
-        ))),
+    /// Every option with its values, in the order in which they were given.
+    pub fn options(&self) -> impl Iterator<Item = (&'static str, &[OsString])> {
+        self.options
+            .iter()
+            .map(|(name, values)| (*name, values.as_slice()))
     }
-}
 
-fn named<T: Copy>(
-    option: &str,
-    value: &OsString,
-    names: &[(&'static str, T)],
-) -> Result<T, Trouble> {
-    words::value_of(names, value.to_str().unwrap_or_default()).ok_or_else(|| {
-        let known: Vec<_> = names.iter().map(|(name, _)| name.to_lowercase()).collect();
-        usage(&format!("{option} wants one of {}", known.join(", ")))
-    })
-}
-
-fn cycles(value: &OsString) -> Result<u64, Trouble> {
-    let text = value.to_str().unwrap_or_default();
-    let sound = text.bytes().all(|byte| byte.is_ascii_digit());
-    match text.parse() {
-        Ok(number) if sound => Ok(number),
-        _ => Err(usage(&format!(
-            "the budget is a number of cycles in decimal digits, at most {}",
-            u64::MAX
-        ))),
+    /// The values of an option, as often as it was given.
+    pub fn all<'a>(&'a self, name: &'a str) -> impl Iterator<Item = &'a [OsString]> {
+        self.options()
+            .filter(move |(given, _)| *given == name)
+            .map(|(_, values)| values)
     }
-}
 
-fn usage(what: &str) -> Trouble {
-    Trouble::Usage(what.to_string())
+    /// The value of an option that takes one.
+    pub fn value(&self, name: &str) -> Option<&OsStr> {
+        let values = self.options().find(|(given, _)| *given == name)?.1;
+        values.first().map(OsString::as_os_str)
+    }
+
+    /// How often standard input is to be read.
+    pub fn readings_of_standard_input(&self) -> usize {
+        let values = self.options.iter().flat_map(|(_, values)| values);
+        let all = self.plain.iter().chain(values);
+        all.filter(|argument| *argument == "-").count()
+    }
 }

@@ -1,55 +1,67 @@
-//! Saved machines as files: makes, shows, checks, runs and compares them. Whatever there is to know
-//! about a head or an image is asked of the proved core.
+//! Saved machines as files. Whatever there is to know about a head or an image is asked of the
+//! proved core.
 
-#![forbid(unsafe_code)]
+#![deny(unsafe_code)]
 
 mod arguments;
 mod commands;
-mod compare;
-mod files;
+mod differences;
+mod input;
+mod numbers;
 mod progress;
+mod refused;
+mod report;
+mod saved;
+mod score;
+mod slices;
+mod target;
 mod trouble;
+mod unix;
 mod words;
 
 use std::env;
 use std::io::{self, ErrorKind, Write};
 use std::process::ExitCode;
 
-use trouble::Trouble;
+use report::{Report, Status};
 
 fn main() -> ExitCode {
-    match arguments::read(env::args_os().skip(1)).and_then(commands::carry_out) {
-        Ok(report) => {
-            let printed = print(&report.text);
-            if let Some(line) = report.complaint {
-                complain(&line);
-            }
-            match printed {
-                Ok(()) => ExitCode::from(report.exit),
-                Err(trouble) => give_up(&trouble),
-            }
+    let status = match commands::carry_out(env::args_os().skip(1)) {
+        Ok(report) => tell(&report),
+        Err(trouble) => {
+            complain(&trouble.line());
+            Status::Trouble
         }
-        Err(trouble) => give_up(&trouble),
+    };
+    ExitCode::from(status.number())
+}
+
+/// What is wrong comes first, so that the last line is the report's own.
+fn tell(report: &Report) -> Status {
+    for line in &report.complaints {
+        complain(line);
+    }
+    match print(&report.text) {
+        Ok(()) => report.status,
+        Err(error) => {
+            let written = report.written().unwrap_or_default();
+            let error = words::file_error(&error);
+            complain(&format!("standard output: {error}{written}"));
+            Status::Trouble
+        }
     }
 }
 
-fn give_up(trouble: &Trouble) -> ExitCode {
-    complain(&trouble.line());
-    ExitCode::from(trouble.exit())
-}
-
 /// A reader who has seen enough and left is no trouble.
-fn print(text: &str) -> Result<(), Trouble> {
+fn print(text: &str) -> io::Result<()> {
     let mut out = io::stdout().lock();
     match out.write_all(text.as_bytes()).and_then(|()| out.flush()) {
-        Err(error) if error.kind() != ErrorKind::BrokenPipe => {
-            Err(Trouble::Failed(format!("standard output: {error}")))
-        }
+        Err(error) if error.kind() != ErrorKind::BrokenPipe => Err(error),
         _ => Ok(()),
     }
 }
 
-/// Where standard error is closed nobody can be told; the exit code still says it.
+/// Where standard error is closed nobody can be told; the exit status still says it.
 fn complain(line: &str) {
     let _ = writeln!(io::stderr(), "trnadulek-tool: {line}");
 }

@@ -1,7 +1,7 @@
-use std::io::{self, IsTerminal, Write};
+use std::io::{self, Write};
 use std::time::{Duration, Instant};
 
-use crate::words;
+use crate::{unix, words};
 
 /// A run is long from here on.
 const LONG: Duration = Duration::from_secs(1);
@@ -18,7 +18,7 @@ pub struct Progress {
 
 impl Progress {
     pub fn new(budget: u64) -> Self {
-        let watched = io::stderr().is_terminal();
+        let watched = unix::is_terminal(&io::stderr());
         Progress {
             budget,
             next: watched.then(|| Instant::now() + LONG),
@@ -28,7 +28,7 @@ impl Progress {
 
     pub fn at(&mut self, spent: u64) {
         let now = Instant::now();
-        if self.next.is_none_or(|next| now < next) {
+        if self.next.map_or(true, |next| now < next) {
             return;
         }
         let percent = u128::from(spent) * 100 / u128::from(self.budget.max(1));

@@ -1,43 +1,42 @@
 use std::io;
 use std::path::Path;
 
-use trnadulek::Refusal;
-
 use crate::words;
 
-/// Why a command was not carried out. Nothing was changed.
+/// Why a command could not be carried out.
 #[derive(Debug)]
 pub enum Trouble {
-    /// The command was not understood.
+    /// It was not understood.
     Usage(String),
     /// It was understood, but it cannot be done.
     Failed(String),
 }
 
 impl Trouble {
-    pub fn file(path: &Path, error: &io::Error) -> Self {
-        Trouble::said(path, &error.to_string())
+    pub fn usage(what: &str) -> Self {
+        Trouble::Usage(what.to_string())
     }
 
     pub fn said(path: &Path, what: &str) -> Self {
         Trouble::Failed(format!("{}: {what}", words::name(path)))
     }
 
-    pub fn refused(path: &Path, refusal: Refusal) -> Self {
-        Trouble::said(path, &words::refused(refusal))
+    pub fn file(path: &Path, error: &io::Error) -> Self {
+        Trouble::said(path, &words::file_error(error))
+    }
+
+    /// What it means for the files.
+    pub fn and(self, what: &str) -> Self {
+        match self {
+            Trouble::Failed(line) => Trouble::Failed(format!("{line}; {what}")),
+            usage => usage,
+        }
     }
 
     pub fn line(&self) -> String {
         match self {
-            Trouble::Usage(what) => format!("{what} (--help says how)"),
+            Trouble::Usage(what) => format!("{what}; nothing was done (--help says how)"),
             Trouble::Failed(what) => what.clone(),
-        }
-    }
-
-    pub fn exit(&self) -> u8 {
-        match self {
-            Trouble::Usage(_) => 2,
-            Trouble::Failed(_) => 1,
         }
     }
 }

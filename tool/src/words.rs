@@ -1,36 +1,34 @@
 //! How things are said.
 
-use std::fmt::Write;
+use std::ffi::OsStr;
+use std::fs::FileType;
+use std::io;
+use std::os::unix::fs::FileTypeExt;
 use std::path::Path;
 
-use trnadulek::{Cpu, Ime, Mode, Refusal};
+use trnadulek::Cpu;
 
-pub const IMES: [(&str, Ime); 3] = [("Off", Ime::Off), ("Arming", Ime::Arming), ("On", Ime::On)];
+/// A line of a table: a name and a value.
+pub fn row(name: &str, value: &str) -> String {
+    format!("{name:7}  {value}\n")
+}
 
-pub const MODES: [(&str, Mode); 4] = [
-    ("Running", Mode::Running),
-    ("Repeat", Mode::Repeat),
-    ("Halted", Mode::Halted),
-    ("Stopped", Mode::Stopped),
-];
-
-/// What `show` has a line for, in its order.
-pub fn fields(cpu: Cpu) -> [(&'static str, String); 9] {
-    let pair = |high, low| word(u16::from_be_bytes([high, low]));
+/// The registers, in the order of `show`.
+pub fn registers(cpu: Cpu) -> [(&'static str, String); 9] {
     [
-        ("AF", pair(cpu.a, cpu.f)),
-        ("BC", pair(cpu.b, cpu.c)),
-        ("DE", pair(cpu.d, cpu.e)),
-        ("HL", pair(cpu.h, cpu.l)),
+        ("AF", word(cpu.af())),
+        ("BC", word(cpu.bc())),
+        ("DE", word(cpu.de())),
+        ("HL", word(cpu.hl())),
         ("SP", word(cpu.sp)),
         ("PC", word(cpu.pc)),
         ("flags", flags(cpu.f)),
-        ("IME", name_of(&IMES, cpu.ime).to_string()),
-        ("mode", name_of(&MODES, cpu.mode).to_string()),
+        ("IME", cpu.ime.to_string()),
+        ("mode", cpu.mode.to_string()),
     ]
 }
 
-fn word(value: u16) -> String {
+pub fn word(value: u16) -> String {
     format!("{value:04X}")
 }
 
@@ -41,42 +39,45 @@ fn flags(f: u8) -> String {
         .collect()
 }
 
-fn name_of<T: Copy + PartialEq>(names: &[(&'static str, T)], wanted: T) -> &'static str {
-    names
-        .iter()
-        .find(|(_, value)| *value == wanted)
-        .map_or("?", |(name, _)| name)
-}
-
-/// The value of a name, in capitals or not.
-pub fn value_of<T: Copy>(names: &[(&'static str, T)], wanted: &str) -> Option<T> {
-    names
-        .iter()
-        .find(|(name, _)| name.eq_ignore_ascii_case(wanted))
-        .map(|(_, value)| *value)
-}
-
-/// A refusal by number and in a sentence.
-pub fn refused(refusal: Refusal) -> String {
-    let sentence = match refusal {
-        Refusal::MemoryLength => "the memory must be exactly 65,536 bytes long",
-        Refusal::FlagBits => "F has one of its low four bits set, which no program can do",
-        Refusal::Stopped => "the processor is Stopped, and nothing in the core wakes it",
-        Refusal::UndefinedOpcode => "the byte at PC is an undefined opcode",
-        Refusal::Budget => "the budget is above 1,048,576 cycles",
-        Refusal::Length => "the length is wrong: a head has 23 bytes and an image 65,559",
-        Refusal::Version => "the first byte, the version, is not 1",
-        Refusal::BlockLength => "a length inside the head is wrong: they must be 14 and 65,536",
-        Refusal::StateCode => "the code of IME is above 2, or the code of the mode above 3",
-        other => return format!("refusal {}: {other}", other.number()),
-    };
-    format!("refusal {}: {sentence}", refusal.number())
-}
-
 /// A file's name on one line, whatever is in it.
 pub fn name(path: &Path) -> String {
-    let name = path.display().to_string();
-    name.replace(char::is_control, "?")
+    if path == Path::new("-") {
+        return "standard input".to_string();
+    }
+    typed(path.as_os_str())
+}
+
+/// What was typed, on one line, whatever is in it.
+pub fn typed(word: &OsStr) -> String {
+    let word = word.to_string_lossy();
+    word.replace(char::is_control, "?")
+}
+
+/// Why a file could not be read or written. The numbers are Linux's.
+pub fn file_error(error: &io::Error) -> String {
+    let words = match error.raw_os_error() {
+        Some(2) => "there is no such file or folder",
+        Some(13) => "this user has no permission for that",
+        Some(20) => "a part of its path is no folder",
+        Some(28) => "there is no room left on the disk",
+        Some(30) => "the disk can only be read",
+        Some(40) => "a loop of links, which leads to no file",
+        _ => return error.to_string(),
+    };
+    words.to_string()
+}
+
+/// What something is that is no ordinary file.
+pub fn kind(found: FileType) -> &'static str {
+    if found.is_dir() {
+        "a folder"
+    } else if found.is_fifo() {
+        "a pipe"
+    } else if found.is_socket() {
+        "a socket"
+    } else {
+        "a device"
+    }
 }
 
 /// Digits in threes.
@@ -98,16 +99,19 @@ pub fn count(number: u64, thing: &str) -> String {
     format!("{} {thing}{plural}", grouped(number))
 }
 
-/// Bytes in hexadecimal, the first few of many.
+/// Where bytes of the memory lie: from the first to before the last.
+pub fn place(from: usize, to: usize) -> String {
+    match to - from {
+        1 => format!("${from:04X}"),
+        length => {
+            let bytes = count(length as u64, "byte");
+            format!("${from:04X}-${:04X}, {bytes}", to - 1)
+        }
+    }
+}
+
+/// Bytes in hexadecimal.
 pub fn bytes(bytes: &[u8]) -> String {
-    const SHOWN: usize = 8;
-    let mut text = String::new();
-    for byte in bytes.iter().take(SHOWN) {
-        let space = if text.is_empty() { "" } else { " " };
-        let _ = write!(text, "{space}{byte:02X}");
-    }
-    if bytes.len() > SHOWN {
-        text.push_str(" ..");
-    }
-    text
+    let shown: Vec<String> = bytes.iter().map(|byte| format!("{byte:02X}")).collect();
+    shown.join(" ")
 }

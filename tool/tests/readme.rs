@@ -7,20 +7,11 @@ use common::*;
 fn the_readme_tells_the_truth() {
     let bench = Bench::new("readme");
     bench.put("score.dump", &worked_memory());
-    let mut expected = String::new();
-    let mut said = String::new();
-    let mut calls = 0;
-    let shown = include_str!("../README.md")
-        .lines()
-        .filter_map(|line| line.strip_prefix("    "));
-    for line in shown.skip_while(|line| !line.starts_with("$ ")) {
-        expected.push_str(&format!("{line}\n"));
-        if let Some(call) = line.strip_prefix("$ trnadulek-tool ") {
-            let answer = bench.tool(call);
-            said.push_str(&format!("{line}\n{}{}", answer.out, answer.err));
-            calls += 1;
-        }
-    }
-    assert_eq!(said, expected);
-    assert_eq!(calls, 10);
+    // STOP at $0000, with every register 0.
+    let stop = [0x10, 0x00];
+    let zero = [
+        1, 0, 0, 0, 14, 0, 0, 0, 0, 0, 0, 0, 0, 0, 0, 0, 0, 0, 0, 0, 1, 0, 0,
+    ];
+    bench.put("stops.img", &image(&zero, &memory(&[(0, &stop)])));
+    assert_eq!(holds(include_str!("../README.md"), &bench), 16);
 }

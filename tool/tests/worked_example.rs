@@ -21,13 +21,13 @@ fn made_run_shown_compared() {
     let ran = bench.tool("run before.img 30 after.img").done();
     assert_eq!(ran, "ran 30 cycles in 16 steps, wrote after.img\n");
     let shown = bench.tool("show after.img").done();
-    assert_eq!(shown, format!("image  after.img\n{WORKED_SHOWN}"));
-    let compared = bench.tool("compare before.img after.img");
-    assert_eq!((compared.exit, compared.err.as_str()), (Some(1), ""));
+    assert_eq!(shown, format!("image    after.img\n{WORKED_SHOWN}"));
+    assert_eq!(bench.get("after.img"), worked_after());
     assert_eq!(
-        compared.out,
-        "AF     0000 -> 02C0\nBC     0200 -> 0000\nDE     C100 -> C102\nHL     C000 -> C002\n\
-         SP     DFFE -> E000\nPC     0150 -> 1234\nflags  ---- -> ZN--\n\
+        bench.tool("compare before.img after.img").no(),
+        "AF       0000 -> 02C0\nBC       0200 -> 0000\nDE       C100 -> C102\n\
+         HL       C000 -> C002\nSP       DFFE -> E000\nPC       0150 -> 1234\n\
+         flags    ---- -> ZN--\n\
          $C000-$C001, 2 bytes  99 01 -> 00 02\nmemory: 2 bytes in 1 range differ\n"
     );
     assert_eq!(
@@ -56,8 +56,7 @@ fn in_slices_it_is_one_run() {
             steps += taken;
         }
         assert_eq!((spent, steps), (30, 16));
-        let shown = bench.tool("show before.img").done();
-        assert_eq!(shown, format!("image  before.img\n{WORKED_SHOWN}"));
+        assert_eq!(bench.get("before.img"), worked_after());
         assert_eq!(
             bench.tool("compare before.img whole.img").done(),
             "the same\n"
@@ -84,7 +83,7 @@ fn above_the_largest_budget() {
     let ran = bench.tool(&format!("run in.img {cycles} out.img")).done();
     assert_eq!(counts(&ran), (cycles, steps));
     let shown = bench.tool("show out.img").done();
-    assert_eq!(shown, format!("image  out.img\n{WORKED_SHOWN}"));
+    assert_eq!(shown, format!("image    out.img\n{WORKED_SHOWN}"));
 }
 
 /// JR to itself costs 3: the first slice spends 2 more than its budget, which the second has less.
@@ -108,7 +107,10 @@ fn many_slices() {
     bench.tool("make in.img --dump dump").done();
     let ran = bench.tool("run in.img 30000000 out.img").done();
     assert_eq!(counts(&ran), (30_000_000, 30_000_000));
-    assert!(bench.tool("show out.img").done().contains("PC     C380\n"));
+    assert!(bench
+        .tool("show out.img")
+        .done()
+        .contains("PC       C380\n"));
 }
 
 #[test]
@@ -133,32 +135,43 @@ fn a_cartridge_starts_as_on_the_first_model() {
         bench.get("full.img"),
         image(&head, &memory(&[(0, &cartridge)]))
     );
+}
 
-    bench.put("short.gb", &cartridge[..300]);
+#[test]
+fn every_start_value_can_be_given() {
+    let bench = Bench::new("values");
+    let cartridge: Vec<u8> = (0..300).map(|at| (at % 251) as u8).collect();
+    bench.put("short.gb", &cartridge);
     let all =
         "--af $1230 --bc 0x4567 --de 89ab --hl CDEF --sp 1 --pc 22 --ime arming --mode halted";
     bench
         .tool(&format!("make short.img --cartridge short.gb {all}"))
         .done();
     let shown = bench.tool("show short.img").done();
-    assert_eq!(
-        shown,
-        "image  short.img\nAF     1230\nBC     4567\nDE     89AB\nHL     CDEF\nSP     0001\n\
-         PC     0022\nflags  --HC\nIME    Arming\nmode   Halted\n"
+    assert!(
+        shown.starts_with(
+            "image    short.img\nAF       1230\nBC       4567\nDE       89AB\nHL       CDEF\n\
+             SP       0001\nPC       0022\nflags    --HC\nIME      Arming\nmode     Halted\n"
+        ),
+        "{shown}"
     );
     let short = bench.get("short.img");
-    assert_eq!(short[23..], memory(&[(0, &cartridge[..300])]));
+    assert_eq!(short[23..], memory(&[(0, &cartridge)]));
     // IME and mode by document 01's codes.
     assert_eq!(short[17..19], [1, 2]);
+}
 
+#[test]
+fn cartridges_of_other_lengths() {
+    let bench = Bench::new("cartridges");
     bench.put("long.gb", &[0; 32_769]);
     bench
         .tool("make long.img --cartridge long.gb")
-        .failed(1, "banks are not in this version");
+        .wrote_nothing("found 32,769 bytes, wanted a cartridge of 1 to 32,768; banks are not");
     bench.put("empty.gb", &[]);
     bench
         .tool("make long.img --cartridge empty.gb")
-        .failed(1, "empty");
+        .wrote_nothing("found 0 bytes, wanted a cartridge of 1 to 32,768");
     assert!(!bench.0.join("long.img").exists());
 }
 
@@ -168,14 +181,16 @@ fn heads_are_shown_and_compared_too() {
     bench.put("a", &WORKED_HEAD);
     bench.put("b", &with(&with(&WORKED_HEAD, 17, 2), 18, 1));
     let shown = bench.tool("show b").done();
-    assert!(shown.starts_with("head   b\n") && shown.ends_with("IME    On\nmode   Repeat\n"));
+    assert!(shown.starts_with("head     b\n"));
+    assert!(shown.ends_with("IME      On\nmode     Repeat\n"));
     assert_eq!(bench.tool("check a").done(), "a: a valid head\n");
-    let compared = bench.tool("compare a b");
-    assert_eq!(compared.exit, Some(1));
-    assert_eq!(compared.out, "IME    Off -> On\nmode   Running -> Repeat\n");
+    assert_eq!(
+        bench.tool("compare a b").no(),
+        "IME      Off -> On\nmode     Running -> Repeat\n"
+    );
     bench.put("c", &image(&WORKED_HEAD, &worked_memory()));
     assert_eq!(bench.tool("check c").done(), "c: a valid image\n");
-    bench.tool("compare a c").failed(1, "two of a kind");
+    bench.tool("compare a c").failed("two of a kind");
 }
 
 #[test]
@@ -187,13 +202,24 @@ fn many_differences_end_in_a_count() {
     other[0xFFFF] = 0x1F;
     bench.put("a", &image(&WORKED_HEAD, &worked_memory()));
     bench.put("b", &image(&WORKED_HEAD, &other));
-    let compared = bench.tool("compare a b");
-    assert_eq!(compared.exit, Some(1));
-    let lines: Vec<_> = compared.out.lines().collect();
+    let compared = bench.tool("compare a b").no();
+    let lines: Vec<_> = compared.lines().collect();
     assert_eq!(lines.len(), 42);
     assert_eq!(lines[0], "$8000  00 -> 01");
-    assert_eq!(lines[40], "and 90 more ranges");
+    assert_eq!(lines[40], "and 90 more ranges; --all shows them");
     assert_eq!(lines[41], "memory: 149 bytes in 130 ranges differ");
+
+    let all = bench.tool("compare a b --all").no();
+    let lines: Vec<_> = all.lines().collect();
+    assert_eq!(lines.len(), 131);
+    assert_eq!(lines[127], "$80FE  00 -> 01");
+    let whole = |byte: &str| vec![byte; 20].join(" ");
+    assert_eq!(
+        lines[128],
+        format!("$D000-$D013, 20 bytes  {} -> {}", whole("00"), whole("AA"))
+    );
+    assert_eq!(lines[129], "$FFFF  00 -> 1F");
+    assert_eq!(lines[130], "memory: 149 bytes in 130 ranges differ");
 
     let mut other = worked_memory();
     other[0xFFEC..].fill(0xAA);

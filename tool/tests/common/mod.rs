@@ -3,8 +3,9 @@
 
 use std::ffi::OsStr;
 use std::fs;
+use std::io::{self, Write};
 use std::path::{Path, PathBuf};
-use std::process::{self, Command, Output};
+use std::process::{self, Command, Output, Stdio};
 
 pub const TOOL: &str = env!("CARGO_BIN_EXE_trnadulek-tool");
 
@@ -38,8 +39,25 @@ impl Bench {
     }
 
     pub fn call<S: AsRef<OsStr>>(&self, arguments: &[S]) -> Answer {
-        let mut command = Command::new(TOOL);
-        Answer::new(command.args(arguments).current_dir(&self.0).output())
+        Answer::new(self.command().args(arguments).output())
+    }
+
+    /// The tool, ended with 124 where it would wait or run for ever.
+    fn command(&self) -> Command {
+        let mut command = Command::new("timeout");
+        command.args(["100", TOOL]).current_dir(&self.0);
+        command
+    }
+
+    /// The same with bytes on standard input.
+    pub fn fed(&self, line: &str, bytes: &[u8]) -> Answer {
+        let mut command = self.command();
+        let streams = command.args(line.split_whitespace()).stdin(Stdio::piped());
+        let streams = streams.stdout(Stdio::piped()).stderr(Stdio::piped());
+        let mut child = streams.spawn().unwrap();
+        // A tool that refuses before it has read everything closes the pipe.
+        let _ = child.stdin.take().unwrap().write_all(bytes);
+        Answer::new(child.wait_with_output())
     }
 
     /// The same with the words of one line.
@@ -70,7 +88,7 @@ pub struct Answer {
 }
 
 impl Answer {
-    fn new(output: std::io::Result<Output>) -> Self {
+    pub fn new(output: io::Result<Output>) -> Self {
         let output = output.unwrap();
         Answer {
             exit: output.status.code(),
@@ -86,12 +104,26 @@ impl Answer {
         self.out
     }
 
-    /// Ended by an exit code with one line on standard error that has these words, and nothing
-    /// printed.
+    /// It could not be done: status 2 with one line on standard error that has these words, and
+    /// nothing printed.
     #[track_caller]
-    pub fn failed(self, exit: i32, words: &str) {
-        assert_eq!((self.exit, self.out.as_str()), (Some(exit), ""), "{self:?}");
+    pub fn failed(self, words: &str) {
+        assert_eq!((self.exit, self.out.as_str()), (Some(2), ""), "{self:?}");
         self.complained(words);
+    }
+
+    /// The same of a command that writes: the line ends by saying that nothing was written.
+    #[track_caller]
+    pub fn wrote_nothing(self, words: &str) {
+        assert!(self.err.ends_with("; nothing was written\n"), "{self:?}");
+        self.failed(words);
+    }
+
+    /// The answer is no, without a word on standard error; what it printed.
+    #[track_caller]
+    pub fn no(self) -> String {
+        assert_eq!((self.exit, self.err.as_str()), (Some(1), ""), "{self:?}");
+        self.out
     }
 
     /// Ended by an exit code without a word.
@@ -141,16 +173,42 @@ pub const WORKED_HEAD: [u8; 23] = [
 
 /// What `show` says of the worked example after the run, below its first line.
 pub const WORKED_SHOWN: &str = "\
-AF     02C0
-BC     0000
-DE     C102
-HL     C002
-SP     E000
-PC     1234
-flags  ZN--
-IME    Off
-mode   Running
+AF       02C0
+BC       0000
+DE       C102
+HL       C002
+SP       E000
+PC       1234
+flags    ZN--
+IME      Off
+mode     Running
+IE       00
+IF       00
+pending  00
+at PC    00
+at SP    0000
 ";
+
+/// The worked example's head after the run, byte for byte, from the line that document 01 has for
+/// it.
+pub const WORKED_HEAD_AFTER: [u8; 23] = [
+    1, 0, 0, 0, 14, 0x02, 0xC0, 0, 0, 0xC1, 0x02, 0xC0, 0x02, 0xE0, 0, 0x12, 0x34, 0, 0, 0, 1, 0, 0,
+];
+
+/// The worked example's image after the run: 199 and 1 are 200, which is 00 02.
+pub fn worked_after() -> Vec<u8> {
+    let mut memory = worked_memory();
+    memory[0xC000..0xC002].copy_from_slice(&[0x00, 0x02]);
+    image(&WORKED_HEAD_AFTER, &memory)
+}
+
+/// The image of a unit that does not adjust the decimal byte: 99 and 01 are 9A without a carry, and
+/// so the upper byte, which is left in A, stays 01.
+pub fn with_a_letter() -> Vec<u8> {
+    let mut memory = worked_memory();
+    memory[0xC000..0xC002].copy_from_slice(&[0x9A, 0x01]);
+    image(&with(&WORKED_HEAD_AFTER, 5, 0x01), &memory)
+}
 
 /// A file with one byte changed.
 pub fn with(bytes: &[u8], at: usize, byte: u8) -> Vec<u8> {
@@ -161,6 +219,30 @@ pub fn with(bytes: &[u8], at: usize, byte: u8) -> Vec<u8> {
 
 pub fn image(head: &[u8], memory: &[u8]) -> Vec<u8> {
     [head, memory].concat()
+}
+
+/// Says that a test could not be made here. The words are written past the test harness, which would
+/// keep them to itself.
+pub fn not_possible(test: &str, why: &str) {
+    let _ = writeln!(io::stderr(), "not possible here: {test}: {why}");
+}
+
+/// The examples of a page, each `$ trnadulek-tool` line with what it prints, say what stands there.
+/// How many there were.
+#[track_caller]
+pub fn holds(page: &str, bench: &Bench) -> usize {
+    let (mut expected, mut said, mut calls) = (String::new(), String::new(), 0);
+    let shown = page.lines().filter_map(|line| line.strip_prefix("    "));
+    for line in shown.skip_while(|line| !line.starts_with("$ ")) {
+        expected.push_str(&format!("{line}\n"));
+        if let Some(call) = line.strip_prefix("$ trnadulek-tool ") {
+            let answer = bench.shell(&format!("\"$TOOL\" {call} 2>&1"));
+            said.push_str(&format!("{line}\n{}", answer.out));
+            calls += 1;
+        }
+    }
+    assert_eq!(said, expected);
+    calls
 }
 
 /// The two numbers of "ran N cycles in M steps".
