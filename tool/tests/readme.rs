@@ -15,3 +15,13 @@ fn the_readme_tells_the_truth() {
     bench.put("stops.img", &image(&zero, &memory(&[(0, &stop)])));
     assert_eq!(holds(include_str!("../README.md"), &bench), 16);
 }
+
+/// The session in docs/scores.md: two units that disagree about 199 and 1.
+#[test]
+fn the_page_about_scores_tells_the_truth() {
+    let bench = Bench::new("scores");
+    bench.put("start.img", &image(&WORKED_HEAD, &worked_memory()));
+    bench.put("unit-1.img", &worked_after());
+    bench.put("unit-2.img", &with_a_letter());
+    assert_eq!(holds(include_str!("../../docs/scores.md"), &bench), 3);
+}
