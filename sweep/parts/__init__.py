@@ -1,1 +1,1 @@
-"""What the programs of this folder share."""
+"""What the programs of this folder share, beside what they take from checks/reading."""

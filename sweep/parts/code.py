@@ -1,7 +1,8 @@
 """Small wrong changes of the code: inside the bodies of functions and in the constant tables."""
 import re
 
-from . import source
+from reading import source
+
 from .edits import Edit
 from .numbers import NUMBER, another, off_by_one
 

@@ -3,7 +3,9 @@ import pathlib
 import shutil
 import tempfile
 
-from . import judging, prover
+from reading import prover
+
+from . import judging
 
 COMPARED = pathlib.Path(__file__).resolve().parents[1] / "compared"
 VERDICTS = {0: "survived", 1: "seen", 2: "refused by proof"}

@@ -5,7 +5,7 @@ import pathlib
 import shutil
 import tempfile
 
-from . import crates, prover
+from reading import crates, prover
 
 
 class Prepared:

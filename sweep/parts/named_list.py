@@ -1,5 +1,5 @@
 """The wrong edits that have a name: what is easily got wrong, what the instructions' entries say, and the cheats."""
-from .changes import Change
+from reading.changes import Change
 
 STEP = "machine/specs/Step.antt"
 RUN = "machine/src/run.rt"
