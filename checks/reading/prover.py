@@ -13,6 +13,10 @@ UNFIT = (
     r"takes? (no|too|\d+) |too many arguments|expects? \d+ argument",
     r"error\[",
     r"expected [^:]*, found|parse error|syntax",
+    # a step of the program's own in the place of another: the code takes its steps in another order
+    r"expected type `tie\.(?!Need-)",
+    r"one has `[^`\s]*\.Lts\.[^`\s]*` \(expected\)",
+    r"the other has `[^`\s]*\.Lts\.[^`\s]*` \(found\)",
 )
 
 # An error of one of these kinds says that what is to be shown is not so, or could not be shown.
@@ -102,11 +106,11 @@ def weighed(place, words):
 
 
 def own(text, crate, function):
-    """The verdict on one function of a check that failed: by the first error in its own proof or, where it has no proof file, by
-    what is left open of it."""
-    for place, words in errors(text):
-        if f"/proofs/{function.replace('::', '/')}/Proof.antt:" in place:
-            return Answer(weighed(place, words), place, words, 0)
+    """The verdict on one function of a check that failed: by the errors in its own proof, of which none may be of form, or, where
+    it has no proof file, by what is left open of it."""
+    found = [(place, words) for place, words in errors(text) if f"/proofs/{function.replace('::', '/')}/Proof.antt:" in place]
+    for place, words in sorted(found, key=lambda error: weighed(*error) != "unfit"):
+        return Answer(weighed(place, words), place, words, 0)
     left = re.search(rf"^fn {crate}::{function}: no proof: .*`search` does not close (.*)$", text, re.M)
     if left:
         return Answer("refused", "", f"{function} leaves {left.group(1)} open", 0)
