@@ -94,13 +94,16 @@ def part_of(one, began, at, line):
 
 
 def brought(text):
-    """What each name of a file's `use` lines stands for: {name here: module and name there}."""
+    """What each name that a file's `use` lines bring stands for: {name here: module and name there}."""
     found = {}
     for module, names in re.findall(r"^(?:ghost |pub )*use ([^\s{;]+?)\.\{([^}]*)\}", text, re.M):
         for one in names.split(","):
             there, _, here = one.strip().partition(" as ")
             if there:
                 found[(here or there).strip()] = f"{module}.{there.strip()}"
-    for module, here in re.findall(r"^(?:ghost )?use (\S+) as (\S+?);?$", text, re.M):
-        found[here] = module
     return found
+
+
+def modules(text):
+    """The modules that a file's `use` lines give a name: {name here: module}."""
+    return {here: module for module, here in re.findall(r"^(?:ghost )?use (\S+) as (\S+?);?$", text, re.M)}

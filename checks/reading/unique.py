@@ -13,10 +13,7 @@ OneOutcome {K} {S} {A} {R} {E} Post left =
     (κs : K) (a : A κs) (x y : R κs) (e f : E κs) → Post κs a x e → Post κs a y f → (x ≡ y) × (left κs e ≡ left κs f)
 """,
 }
-LONG = (
-    r"\(κs : Lfts \d+\) \(a : Dens κs (\S+)\.ps\) \(r r′ : resT \1\.r κs \.Denot\) "
-    r"\(e e′ : AtExit \(endedOf \d+ \1\.ps \1\.r\) κs\) → {post} κs a r e → {post} κs a r′ e′ → (.*)"
-)
+LONG = r"\(κs : _\) \(a : _\) \(r r′ : _\) \(e e′ : _\) → {post} κs a r e → {post} κs a r′ e′ → (.*)"
 
 
 def flat(text):
@@ -36,34 +33,32 @@ def wanted(function):
     return found
 
 
+def outside(text):
+    """How many brackets are open after each letter."""
+    depth = 0
+    for letter in text:
+        depth += {"(": 1, ")": -1}.get(letter, 0)
+        yield depth
+
+
 def divided(text, sign):
     """The parts that a sign divides, without the brackets around them, to the last one."""
     text = text.strip()
-    depth, cuts = 0, []
-    for at, letter in enumerate(text):
-        depth += {"(": 1, ")": -1}.get(letter, 0)
-        if depth == 0 and at < len(text) - 1 and letter == ")" and not cuts and text[0] == "(":
-            cuts.append(at)  # the first bracket ends before the text does
-    if text.startswith("(") and text.endswith(")") and not cuts:
+    if text.startswith("(") and min([*outside(text)][:-1]) > 0:
         return divided(text[1:-1], sign)
-    parts, depth = [""], 0
-    for letter in text:
-        depth += {"(": 1, ")": -1}.get(letter, 0)
-        if letter == sign and depth == 0:
-            parts.append("")
-        else:
-            parts[-1] += letter
-    return [text] if len(parts) == 1 else [one for part in parts for one in divided(part, sign)]
+    cuts = [at for at, depth in enumerate(outside(text)) if depth == 0 and text[at] == sign]
+    ends = zip([0, *(at + 1 for at in cuts)], [*cuts, len(text)])
+    return [one for start, end in ends for one in divided(text[start:end], sign)] if cuts else [text]
 
 
 def said(stated, post):
     """What a theorem of a known form says of a promise, part by part; nothing where the form is another."""
     long = re.fullmatch(LONG.replace("{post}", re.escape(post)), stated)
     if long:
-        return divided(long.group(2), "×")
+        return divided(long.group(1), "×")
     if stated == f"OneAnswer {post}":
         return ["r ≡ r′"]
-    short = re.fullmatch(rf"OneOutcome {re.escape(post)} \(λ (?:κs|_) e\. (.*)\)", stated)
+    short = re.fullmatch(rf"OneOutcome (?:\{{S = [^{{}}]*\}} )?{re.escape(post)} \(λ (?:κs|_) e\. (.*)\)", stated)
     if short:
         left = divided(short.group(1), ",")
         return ["r ≡ r′"] + [f"{one} ≡ {one.replace('(e ', '(e′ ')}" for one in left]
