@@ -1,4 +1,6 @@
 """The signs that promises are written with: each means what the kit's library says, wherever it stands."""
+import re
+
 from . import antt
 
 # the module of the kit that each sign comes from; one with no module is the language's own, and nothing may bring it in
@@ -26,6 +28,12 @@ def declared(text):
                 yield inner[2]
 
 
+def named(text):
+    """The signs that a file names with their places marked, outside its `use` lines: what could bind one."""
+    rest = re.sub(r"^(ghost |pub )*use .*$", "", "\n".join(antt.plain(text)), flags=re.M)
+    return sorted(sign for sign in SIGNS if "_" in sign and re.search(rf"(?<![^\s({{]){re.escape(sign)}(?![^\s)}}])", rest))
+
+
 def faults(crate):
     """The places of a crate where a sign would mean something else than the kit's library says."""
     files = [*crate.glob("src/**/*.rt"), *crate.glob("specs/**/*.antt"), *crate.glob("proofs/**/*.antt")]
@@ -38,3 +46,5 @@ def faults(crate):
                 yield f"{name} writes promises with `{here}`, which is none of the kit's signs that the check knows"
         if path.suffix == ".antt":
             yield from (f"{name} declares a `{one}` of its own" for one in declared(text) if one in SIGNS)
+        if path.suffix == ".rt" or "specs" in path.parts or path.name == "Unique.antt":
+            yield from (f"{name} names the sign `{one}` itself, as a binder would" for one in named(text))

@@ -94,7 +94,7 @@ def missing(crate, function):
         return f"{name} is not there"
     path = ".".join(function.path)
     alias = re.search(rf"^use Rattle\.{crate.name}\.proofs\.{re.escape(path)}\.Reads as (\S+)$", text, re.M)
-    if not alias:
+    if not alias or len(re.findall(rf" as {re.escape(alias.group(1))}$", text, re.M)) != 1:
         return f"{name} does not speak of what {path} promises"
     parts = said(stated, f"{alias.group(1)}.Post")
     if parts is None:
