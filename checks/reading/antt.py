@@ -15,6 +15,10 @@ class Declared:
     says: str  # the parameters and the type
     body: list = field(default_factory=list)  # the lines below: clauses, or fields and constructors
 
+    def word(self):
+        """The name as a text uses it: a sign stands there without its places' marks."""
+        return self.name.strip("_")
+
     def text(self):
         """All that the declaration means, on one line."""
         return flat(f"{self.given} {self.words} {self.kind} {self.name} {self.says} {' '.join(self.body)}")
