@@ -31,7 +31,7 @@ carried-most (Const v) = omega arith
 
 -- one to three bytes, and one to six cycles, those of a taken branch among them
 abbrev Fair : Shape → Type 0
-Fair s = (1 ≤ s .length) × (s .length ≤ 3) × (1 ≤ s .cycles) × (s .cycles + s .taken ≤ 6)
+Fair s = (1 ≤ s .bytes) × (s .bytes ≤ 3) × (1 ≤ s .cycles) × (s .cycles + s .taken ≤ 6)
 
 fair : (i : Insn) → (i ≡ Undefined) ⊎ Fair (shapeOf i)
 unfolding shapeOf
@@ -88,7 +88,7 @@ pub cycles-most : (i : Insn) → shapeOf i .cycles + shapeOf i .taken ≤ 6
 unfolding shapeOf
 cycles-most i = ⊎-elim (λ e. rw e (omega arith)) (λ f. f .3) (fair i)
 
-pub length-most : (i : Insn) → shapeOf i .length ≤ 3
+pub length-most : (i : Insn) → shapeOf i .bytes ≤ 3
 unfolding shapeOf
 length-most i = ⊎-elim (λ e. rw e (omega arith)) (λ f. f .1) (fair i)
 
@@ -100,7 +100,7 @@ pub undefined-cycles : shapeOf Undefined .cycles ≡ 0
 unfolding shapeOf
 undefined-cycles = refl
 
-pub undefined-length : shapeOf Undefined .length ≡ 0
+pub undefined-length : shapeOf Undefined .bytes ≡ 0
 unfolding shapeOf
 undefined-length = refl
 
@@ -111,7 +111,7 @@ some-cycles i d = ⊎-elim (λ e. absurd (d e)) (λ f. f .2) (fair i)
 pub undefined-is : (i : Insn) → isUndefined i ≡ eqb (shapeOf i .cycles) 0
 undefined-is i =
     ⊎-elim (λ e. rw e (unfold shapeOf in refl))
-    (λ f. rw (ne-eqb (shapeOf i .length) 0 (omega (arith, f .0)), ne-eqb (shapeOf i .cycles) 0 (omega (arith, f .2))))
+    (λ f. rw (ne-eqb (shapeOf i .bytes) 0 (omega (arith, f .0)), ne-eqb (shapeOf i .cycles) 0 (omega (arith, f .2))))
     (fair i)
 
 -- the eleven bytes that are no instruction
@@ -146,7 +146,7 @@ row-above k h = rw (le-ltb k 256 (omega arith), le-ltb k 512 h)
 
 pub length-above : (k : ℕ) → 512 ≤ k → lengthOf k ≡ 0
 unfolding lengthOf
-length-above k h = ap (λ (i : Insn). shapeOf i .length) (row-above k h) ∙ undefined-length
+length-above k h = ap (λ (i : Insn). shapeOf i .bytes) (row-above k h) ∙ undefined-length
 
 pub untaken-above : (k : ℕ) → 512 ≤ k → untakenOf k ≡ 0
 unfolding untakenOf

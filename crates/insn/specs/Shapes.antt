@@ -13,15 +13,15 @@ use Rattle.insn.specs.declared.Insn.{Insn}
 use Rattle.insn.specs.declared.Insn.the-variants.{Nop, StoreSp, Stop, Jr, JrIf, LoadPair, AddHl, StoreAt, LoadAt, IncPair, DecPair, Inc, Dec, Load, RotateA, Daa, Cpl, Scf, Ccf, Halt, Math, RetIf, StoreHigh, AddSp, LoadHigh, LoadHlSp, Pop, Ret, Reti, JumpHl, LoadSpHl, JumpIf, StoreHighC, StoreTo, LoadHighC, LoadFrom, Jump, Rotate, Bit, Res, Set, Di, Ei, CallIf, Push, Call, Rst, Undefined}
 
 pub record Shape : Type 0 where
-  pub length : ℕ
+  pub bytes : ℕ
   pub cycles : ℕ
   pub taken : ℕ
 
 abbrev pub takes : ℕ → ℕ → Shape
-takes n c = record { length = n; cycles = c; taken = 0 }
+takes n c = record { bytes = n; cycles = c; taken = 0 }
 
 abbrev pub branches : ℕ → ℕ → ℕ → Shape
-branches n c t = record { length = n; cycles = c; taken = t }
+branches n c t = record { bytes = n; cycles = c; taken = t }
 
 -- a register costs nothing more; the byte at HL and a constant are one access each
 unfoldable pub accessOf : Operand → ℕ
@@ -88,11 +88,11 @@ shapeOf Undefined = takes 0 0
 
 -- an undefined byte is no instruction, which is to have no length
 abbrev pub isUndefined : Insn → Bool
-isUndefined i = eqb (shapeOf i .length) 0
+isUndefined i = eqb (shapeOf i .bytes) 0
 
 -- an instruction with the bytes after its first and its cycles, as the decoder answers it
 unfoldable pub shapedOf : Insn → Decoded
-shapedOf i = record { insn = i; more = shapeOf i .length - 1; cycles = shapeOf i .cycles }
+shapedOf i = record { insn = i; more = shapeOf i .bytes - 1; cycles = shapeOf i .cycles }
 
 unfoldable pub decodedOf : ℕ → ℕ → ℕ → Decoded
 decodedOf op n w = shapedOf (decodeOf op n w)

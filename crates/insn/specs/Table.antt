@@ -27,7 +27,7 @@ unfoldable pub rowOf : ℕ → Insn
 rowOf k = eitherRow (ltb k 256) k
 
 unfoldable pub lengthOf : ℕ → ℕ
-lengthOf k = shapeOf (rowOf k) .length
+lengthOf k = shapeOf (rowOf k) .bytes
 
 unfoldable pub untakenOf : ℕ → ℕ
 untakenOf k = shapeOf (rowOf k) .cycles

@@ -397,7 +397,7 @@ module _ (s : Cpu) (m : List ℕ) (h : Sound s) (b : Bytes m) where
 
   ready-sound : Sound (readyOf (nextAfter s m) s)
   unfolding readyOf nextAfter
-  ready-sound = omega (arith, further-below (shapeOf (nextInsn s m) .length - 1) (nextRest s))
+  ready-sound = omega (arith, further-below (shapeOf (nextInsn s m) .bytes - 1) (nextRest s))
 
   insn-sound : SoundStep (accepting (insnAct s m) m)
   unfolding insnAct endOf

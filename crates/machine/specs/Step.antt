@@ -68,7 +68,7 @@ unfoldable pub nextInsn : Cpu → Memory → Insn
 nextInsn s m = decodeOf (byteAt m (s .pc)) (byteAt m (nextRest s)) (wordAt m (nextRest s))
 
 unfoldable pub nextAfter : Cpu → Memory → ℕ
-nextAfter s m = further (shapeOf (nextInsn s m) .length - 1) (nextRest s)
+nextAfter s m = further (shapeOf (nextInsn s m) .bytes - 1) (nextRest s)
 
 -- the state in which an instruction runs: PC past all its bytes, the mode Running
 unfoldable pub readyOf : ℕ → Cpu → Cpu
@@ -101,6 +101,10 @@ inputRefusals s m =
     1 when not (eqb (length m) memorySize)
     ∷ 2 when not (eqb (s .f % 16) 0)
     ∷ []
+
+-- of an instruction
+abbrev pub insnRefusals : Cpu → Memory → List Refusal
+insnRefusals s m = 4 when isUndefined (nextInsn s m) ∷ []
 
 -- of a step that is due
 unfoldable pub dueRefusals : Cpu → Memory → List Refusal

@@ -10,16 +10,13 @@ use crate::modes;
 use arith::words;
 use insn::decode;
 ghost use mathlib.Core.Bool.{true};
-ghost use mathlib.Core.List.{[], _∷_};
 ghost use mathlib.Core.Path.{_≡_};
 ghost use Prim.Native.Nat.{_+_, _≤_};
 ghost use lib.ListN.{length};
-ghost use Rattle.arith.specs.Refusals.{_when_};
-ghost use Rattle.insn.specs.Shapes.{isUndefined};
 ghost use Rattle.machine.specs.Answers.{Gives};
 ghost use Rattle.machine.specs.Modes.{settledIme};
 ghost use Rattle.machine.specs.State.{withIme};
-ghost use Rattle.machine.specs.Step.{pastFirst, nextRest, nextInsn, readyOf, insnAct, ruleOf, dueRefusals, stepUnless};
+ghost use Rattle.machine.specs.Step.{pastFirst, nextRest, readyOf, insnAct, ruleOf, insnRefusals, dueRefusals, stepUnless};
 ghost use Rattle.machine.specs.declared.Ime.the-variants.{Off};
 ghost use Rattle.machine.specs.declared.Mode.the-variants.{Running};
 
@@ -93,7 +90,7 @@ impl Cpu {
         requires { ⌜ length (now mem) ≡ 65536 ⌝ }
         requires { ⌜ rest ≡ nextRest self ⌝ }
         requires { ⌜ ime ≡ settledIme (self .ime) (self .ime) ⌝ }
-        ensures { λ r. ⌜ Gives (stepUnless (4 when isUndefined (nextInsn self (now (mem .entry))) ∷ []) (insnAct self (now (mem .entry))) self (now (mem .entry))) r (now (mem .exit)) ⌝ }
+        ensures { λ r. ⌜ Gives (stepUnless (insnRefusals self (now (mem .entry))) (insnAct self (now (mem .entry))) self (now (mem .entry))) r (now (mem .exit)) ⌝ }
     {
         let op = memory::read(&*mem, self.pc);
         let n8 = memory::read(&*mem, rest);
