@@ -9,11 +9,12 @@ use native.Mathlib.Omega.{arith}
 use lib.Dec.{lit<}
 use lib.ListN.{length, take, drop, take-append-drop, length-drop, length-take}
 use lib.Seq.{take-all}
+use Rattle.machine.specs.Memory.{memorySize}
 use Rattle.machine.specs.declared.Cpu.{Cpu}
 use Rattle.machine.proofs.Sound.{Sound}
 use Rattle.saved.specs.Digits.{valueOf, digitsOf, numberOf, bytesOf, byteIn, numberIn}
 use Rattle.saved.specs.Block.{blockSize, blockOf, flagsIn, heldIn}
-use Rattle.saved.specs.Head.{headSize, imageSize, memorySize, headOf, imageOf, memoryIn}
+use Rattle.saved.specs.Head.{headSize, imageSize, headOf, imageOf, memoryIn}
 use Rattle.saved.specs.Head.{versionIn, blockSizeIn, blockIn, memorySizeIn, stateIn}
 use Rattle.saved.specs.Refusals.{Accepted}
 use Rattle.saved.specs.Answers.{stateIf, memoryIf, loadedBy, loadOf, loadHeadOf, openOf, leftBy, savedBy, saveHeadOf, saveImageOf}

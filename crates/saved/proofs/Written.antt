@@ -8,10 +8,11 @@ use borrow.Rule.Slice.PartAt.{part-to-end}
 use borrow.Rule.Slice.PartMut.{putMid}
 use lib.ListN.{length, take, drop, length-append, length-drop, drop-of-length-le}
 use lib.Seq.{take-at, drop-at}
+use Rattle.machine.specs.Memory.{memorySize}
 use Rattle.machine.specs.declared.Cpu.{Cpu}
 use Rattle.saved.specs.Digits.{bytesOf, digitsOf}
 use Rattle.saved.specs.Block.{blockOf}
-use Rattle.saved.specs.Head.{headSize, imageSize, memorySize, headOf, imageOf}
+use Rattle.saved.specs.Head.{headSize, imageSize, headOf, imageOf}
 
 pub head-length : (s : Cpu) → length (headOf s) ≡ headSize
 unfolding headOf blockOf bytesOf digitsOf

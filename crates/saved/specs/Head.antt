@@ -3,6 +3,7 @@
 use Prim.Native.Nat.{ℕ}
 use mathlib.Core.List.{List, _∷_, _++_}
 use lib.ListN.{take, drop}
+use Rattle.machine.specs.Memory.{Memory, memorySize}
 use Rattle.machine.specs.declared.Cpu.{Cpu}
 use Rattle.saved.specs.Digits.{bytesOf, byteIn, numberIn}
 use Rattle.saved.specs.Block.{blockSize, blockOf, heldIn}
@@ -14,9 +15,6 @@ version = 1
 abbrev pub headSize : ℕ
 headSize = 23
 
-abbrev pub memorySize : ℕ
-memorySize = 65536
-
 abbrev pub imageSize : ℕ
 imageSize = 65559
 
@@ -25,7 +23,7 @@ unfoldable pub headOf : Cpu → List ℕ
 headOf s = version ∷ (bytesOf 4 blockSize ++ (blockOf s ++ bytesOf 4 memorySize))
 
 -- the memory follows
-unfoldable pub imageOf : Cpu → List ℕ → List ℕ
+unfoldable pub imageOf : Cpu → Memory → List ℕ
 imageOf s m = headOf s ++ m
 
 -- the parts of a head, by their places
@@ -46,5 +44,5 @@ unfoldable pub stateIn : List ℕ → Cpu
 stateIn h = heldIn (blockIn h)
 
 -- the memory of an image: from the head to the end
-unfoldable pub memoryIn : List ℕ → List ℕ
+unfoldable pub memoryIn : List ℕ → Memory
 memoryIn image = drop headSize image

@@ -3,11 +3,11 @@ use crate::block;
 use crate::numbers;
 use machine::Cpu;
 ghost use mathlib.Core.Path.{_≡_};
-ghost use Prim.Native.Nat.{_≤_, _%_};
-ghost use lib.Dec.{eqb};
+ghost use Prim.Native.Nat.{_≤_};
 ghost use lib.ListN.{length};
-ghost use Rattle.saved.specs.Head.{headSize, version, headOf, blockIn, stateIn, versionIn};
-ghost use Rattle.saved.specs.Refusals.{flagsCode, versionCode, loadCode};
+ghost use Rattle.arith.specs.Refusals.{codeOf};
+ghost use Rattle.saved.specs.Head.{headSize, headOf, blockIn, stateIn};
+ghost use Rattle.saved.specs.Refusals.{flagsRefusals, contentRefusals, loadCode};
 
 // The version and the two lengths that a head holds.
 const VERSION: u8 = 1;
@@ -89,7 +89,7 @@ pub(crate) fn state_in(head: &[u8]) -> Cpu
 
 // Refusal 2.
 pub(crate) fn flags_refusal(f: u8) -> u8
-    ensures { λ r. ⌜ r ≡ flagsCode (eqb (f % 16) 0) ⌝ }
+    ensures { λ r. ⌜ r ≡ codeOf (flagsRefusals f) ⌝ }
 {
     if f % 16 == 0 { 0 } else { 2 }
 }
@@ -97,7 +97,7 @@ pub(crate) fn flags_refusal(f: u8) -> u8
 // Refusals 7, 8, 9 and 2.
 fn content_refusal(head: &[u8]) -> u8
     requires { ⌜ headSize ≤ length (now head) ⌝ }
-    ensures { λ r. ⌜ r ≡ versionCode (eqb (versionIn (now (head .entry))) version) (now (head .entry)) ⌝ }
+    ensures { λ r. ⌜ r ≡ codeOf (contentRefusals (now (head .entry))) ⌝ }
 {
     if head[0] != VERSION {
         return 7;

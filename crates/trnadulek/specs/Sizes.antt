@@ -3,12 +3,10 @@
 use Prim.Native.Nat.{ℕ}
 use mathlib.Core.List.{List, [], _∷_}
 use lib.ListN.{getD}
+use Rattle.machine.specs.Memory.{memorySize}
+use Rattle.machine.specs.Run.{largestBudget}
 use Rattle.saved.specs.Block.{blockSize}
-use Rattle.saved.specs.Head.{headSize, memorySize, imageSize}
-
--- a budget above it is refused with 5
-abbrev pub largestBudget : ℕ
-largestBudget = 1048576
+use Rattle.saved.specs.Head.{headSize, imageSize}
 
 -- 0 a head, 1 a state block, 2 the memory, 3 an image, 4 the largest budget
 unfoldable pub sizes : List ℕ

@@ -3,17 +3,19 @@ use borrow.Author.Needs.{needs}
 use native.Mathlib.Omega.{arith}
 use borrow.Author.Tests.{eq-eqb, ne-eqb}
 use lib.ListN.{length}
-use Rattle.saved.specs.Head.{imageSize, memorySize}
-use Rattle.saved.specs.Refusals.{saveImageCode, saveImageSize, saveMemorySize}
+use Rattle.arith.specs.Refusals.{numberOr, codeOf}
+use Rattle.machine.specs.Memory.{memorySize}
+use Rattle.saved.specs.Head.{imageSize}
+use Rattle.saved.specs.Refusals.{saveImageRefusals, saveImageCode}
 use Rattle.saved.proofs.save_image_refusal.Statement.{statement}
 use Rattle.saved.proofs.save_image_refusal.Tie as tie
 
 returns : tie.Need-returns
-unfolding saveImageCode saveImageSize
+unfolding saveImageCode saveImageRefusals codeOf numberOr
 returns c = rw (ne-eqb (length (c .before .before .before .args .image .now)) imageSize (λ e. omega arith))
 
 returns-2 : tie.Need-returns-2
-unfolding saveImageCode saveImageSize saveMemorySize
+unfolding saveImageCode saveImageRefusals codeOf numberOr
 returns-2 c =
     let start = c .before .before .before .before in
     rw (
@@ -22,7 +24,7 @@ returns-2 c =
     )
 
 returns-3 : tie.Need-returns-3
-unfolding saveImageCode saveImageSize saveMemorySize
+unfolding saveImageCode saveImageRefusals codeOf numberOr
 returns-3 c =
     let start = c .before .before .before .before .before in
     rw (

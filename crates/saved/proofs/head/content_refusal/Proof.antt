@@ -1,117 +1,102 @@
 -- `content_refusal` tests the version, both lengths, the codes and F, in their order. Each test says the same as the
--- definition's own, so that after each the number is that of the tests that are left.
+-- definition's own.
 use borrow.Author.Needs.{needs}
-use Prim.Native.Nat.{ℕ, _%_}
-use mathlib.Core.Bool.{_&&_}
+use Prim.Native.Nat.{ℕ}
 use mathlib.Core.List.{List}
-use mathlib.Core.Path.{_≡_, sym, _∙_}
+use mathlib.Core.Path.{_≡_, _∙_}
 use native.Mathlib.Omega.{arith}
 use borrow.Author.Tests.{eq-eqb, ne-eqb}
-use lib.Dec.{eqb}
+use Rattle.arith.specs.Refusals.{numberOr, codeOf}
+use Rattle.machine.specs.Memory.{memorySize}
 use Rattle.saved.specs.Digits.{byteIn}
 use Rattle.saved.specs.Block.{blockSize, flagsIn, hasCodes}
-use Rattle.saved.specs.Head.{versionIn, blockSizeIn, blockIn, memorySizeIn, version, memorySize}
-use Rattle.saved.specs.Refusals.{versionCode, lengthsCode, codesCode, flagsCode}
+use Rattle.saved.specs.Head.{versionIn, blockSizeIn, blockIn, memorySizeIn, version}
+use Rattle.saved.specs.Refusals.{contentRefusals}
 use Rattle.saved.proofs.head.content_refusal.Statement.{statement}
 use Rattle.saved.proofs.head.content_refusal.Tie as tie
 
--- the head, and the number that the definition gives it
-abbrev head : tie.Start → List ℕ
-head c = c .args .head .now
+-- the head, from where each test is passed
+abbrev head1 : tie.Else1 → List ℕ
+head1 c = c .before .before .before .args .head .now
 
-abbrev code : tie.Start → ℕ
-code c = versionCode (eqb (versionIn (head c)) version) (head c)
+abbrev head2 : tie.Else2 → List ℕ
+head2 c = head1 (c .before .before)
 
--- the start, from where each test is passed
-abbrev start1 : tie.Else1 → tie.Start
-start1 c = c .before .before .before
+abbrev head3 : tie.Else3 → List ℕ
+head3 c = head2 (c .before .before)
 
-abbrev start2 : tie.Else2 → tie.Start
-start2 c = start1 (c .before .before)
-
-abbrev start3 : tie.Else3 → tie.Start
-start3 c = start2 (c .before .before)
-
--- the version
-
-version-is : (c : tie.Else1) → versionIn (head (start1 c)) ≡ version
+version-is : (c : tie.Else1) → versionIn (head1 c) ≡ version
 unfolding versionIn byteIn
 version-is c = omega arith
-
-after-version : (c : tie.Else1)
-    → let h = head (start1 c) in
-    code (start1 c) ≡ lengthsCode (eqb (blockSizeIn h) blockSize && eqb (memorySizeIn h) memorySize) h
-unfolding versionCode
-after-version c = rw (eq-eqb _ _ (version-is c))
 
 version-is-not : (c : tie.Then1) → versionIn (c .before .before .before .args .head .now) ≡ version → ⊥
 unfolding versionIn byteIn
 version-is-not c e = omega arith
 
-returns : tie.Need-returns
-unfolding versionCode
-returns c = rw (ne-eqb _ _ (version-is-not c))
-
--- the block's length
-
-block-is : (c : tie.Else2) → blockSizeIn (head (start2 c)) ≡ blockSize
+block-is : (c : tie.Else2) → blockSizeIn (head2 c) ≡ blockSize
 unfolding blockSizeIn
 block-is c = omega arith
 
-after-block : (c : tie.Else2)
-    → let h = head (start2 c) in code (start2 c) ≡ lengthsCode (eqb (memorySizeIn h) memorySize) h
-after-block c = after-version (c .before .before) ∙ rw (eq-eqb _ _ (block-is c))
-
-block-is-not : (c : tie.Then2) → blockSizeIn (head (start1 (c .before .before))) ≡ blockSize → ⊥
+block-is-not : (c : tie.Then2) → blockSizeIn (head1 (c .before .before)) ≡ blockSize → ⊥
 unfolding blockSizeIn
 block-is-not c e = omega arith
 
-returns-2 : tie.Need-returns-2
-unfolding lengthsCode
-returns-2 c = rw (after-version (c .before .before), ne-eqb _ _ (block-is-not c))
-
--- the memory's length
-
-memory-is : (c : tie.Else3) → memorySizeIn (head (start3 c)) ≡ memorySize
+memory-is : (c : tie.Else3) → memorySizeIn (head3 c) ≡ memorySize
 unfolding memorySizeIn
 memory-is c = omega arith
 
-after-memory : (c : tie.Else3) → let h = head (start3 c) in code (start3 c) ≡ codesCode (hasCodes (blockIn h)) h
-unfolding lengthsCode
-after-memory c = after-block (c .before .before) ∙ rw (eq-eqb _ _ (memory-is c))
-
-memory-is-not : (c : tie.Then3) → memorySizeIn (head (start2 (c .before .before))) ≡ memorySize → ⊥
+memory-is-not : (c : tie.Then3) → memorySizeIn (head2 (c .before .before)) ≡ memorySize → ⊥
 unfolding memorySizeIn
 memory-is-not c e = omega arith
 
-returns-3 : tie.Need-returns-3
-unfolding lengthsCode
-returns-3 c = rw (after-block (c .before .before), ne-eqb _ _ (memory-is-not c))
-
--- the codes, and F
-
-codes-are : (c : tie.After-has-codes) → c .has-codes .result ≡ hasCodes (blockIn (head (start3 (c .before .before .before))))
+codes-are : (c : tie.After-has-codes) → c .has-codes .result ≡ hasCodes (blockIn (head3 (c .before .before .before)))
 codes-are c = c .has-codes .ensures ∙ rw (c .before .before .block-in .ensures)
 
+returns : tie.Need-returns
+unfolding contentRefusals codeOf numberOr
+returns c = rw (ne-eqb _ _ (version-is-not c))
+
+returns-2 : tie.Need-returns-2
+unfolding contentRefusals codeOf numberOr
+returns-2 c = rw (eq-eqb _ _ (version-is (c .before .before)), ne-eqb _ _ (block-is-not c))
+
+returns-3 : tie.Need-returns-3
+unfolding contentRefusals codeOf numberOr
+returns-3 c =
+    let block = c .before .before in
+    rw (eq-eqb _ _ (version-is (block .before .before)), eq-eqb _ _ (block-is block), ne-eqb _ _ (memory-is-not c))
+
 returns-4 : tie.Need-returns-4
-unfolding codesCode flagsIn byteIn
+unfolding contentRefusals codeOf numberOr flagsIn byteIn
 returns-4 c =
     let then = c .before in
     let codes = then .before in
-    let block = codes .before .before in
+    let held = codes .before .before in
+    let memory = held .before in
+    let block = memory .before .before in
     rw (
       c .flags-refusal .ensures,
-      block .block-in .ensures,
-      after-memory (block .before),
+      held .block-in .ensures,
+      eq-eqb _ _ (version-is (block .before .before)),
+      eq-eqb _ _ (block-is block),
+      eq-eqb _ _ (memory-is memory),
       ← (codes-are codes),
       then .if4 .taken,
     )
 
 returns-5 : tie.Need-returns-5
-unfolding codesCode
+unfolding contentRefusals codeOf numberOr
 returns-5 c =
     let codes = c .before in
-    rw (after-memory (codes .before .before .before), ← (codes-are codes), c .if4 .left)
+    let memory = codes .before .before .before in
+    let block = memory .before .before in
+    rw (
+      eq-eqb _ _ (version-is (block .before .before)),
+      eq-eqb _ _ (block-is block),
+      eq-eqb _ _ (memory-is memory),
+      ← (codes-are codes),
+      c .if4 .left,
+    )
 
 pub content-refusal-spec : {M : Type 1} → statement M
 content-refusal-spec =
