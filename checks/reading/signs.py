@@ -19,13 +19,11 @@ SIGNS = {sign: module for module, signs in KIT.items() for sign in signs.split()
 
 
 def declared(text):
-    """The names that an antt file declares: fields and constructors too."""
+    """The names that an antt file declares, and the signs among its fields and constructors: a field that is a word hides none."""
     for one in antt.declarations(text):
         yield one.name
-        for line in one.body if one.kind else []:
-            inner = antt.head(line)
-            if inner:
-                yield inner[2]
+        inner = [antt.head(line) for line in one.body] if one.kind else []
+        yield from (told[2] for told in inner if told and "_" in told[2])
 
 
 def named(text):
@@ -42,8 +40,8 @@ def faults(crate):
         for here, there in antt.brought(text).items():
             if here in SIGNS and there != f"{SIGNS[here]}.{here}":
                 yield f"{name} brings `{here}` in as {there}, and not as the kit's"
-            elif path.suffix == ".rt" and here not in SIGNS and "_" in (here[0], here[-1]):
-                yield f"{name} writes promises with `{here}`, which is none of the kit's signs that the check knows"
+            elif path.suffix == ".rt" and there.startswith("Rattle·") and "_" in (here[0], here[-1]) and not here.strip("_").isalpha():
+                yield f"{name} writes promises with `{here}`, which could be taken for one of the kit's signs"
         if path.suffix == ".antt":
             yield from (f"{name} declares a `{one}` of its own" for one in declared(text) if one in SIGNS)
         if path.suffix == ".rt" or "specs" in path.parts or path.name == "Unique.antt":
