@@ -22,30 +22,29 @@ EASY = [
         "in Repeat PC is moved back after the instruction",
         (
             STEP,
-            "unfoldable pub insnAct : Cpu",
-            "unfoldable pub movedBack : Mode → Act → Act\n"
+            "-- rule 3; refusal 4",
+            "unfoldable pub movedBack : Mode → Done → Done\n"
             "movedBack Running d = d\n"
-            "movedBack Repeat d = record { cycles = d .cycles; cpu = withPc (back 1 (d .cpu .pc)) (d .cpu); stores = d .stores }\n"
+            "movedBack Repeat d = record { cpu = withPc (back 1 (d .cpu .pc)) (d .cpu); extra = d .extra }\n"
             "movedBack Halted d = d\n"
             "movedBack Stopped d = d\n\n"
-            "unfoldable pub insnAct : Cpu",
+            "-- rule 3; refusal 4",
         ),
         (STEP, "{further}", "{further, back}"),
         (
             STEP,
-            "insnAct s m = endOf (shapeOf (nextInsn s m) .cycles) (s .ime) (execOf (nextInsn s m) (readyOf (nextAfter s m) s) m)",
-            "insnAct s m = movedBack (s .mode) (endOf (shapeOf (nextInsn s m) .cycles) (s .ime) (execOf (nextInsn s m) (readyOf"
-            " (further (shapeOf (nextInsn s m) .length) (s .pc)) s) m))",
+            "finishedOf (shapeOf i .cycles) (s .ime) (execOf i (readyOf (further (shapeOf i .more) rest) s) m)",
+            "record { out = endOf (shapeOf i .cycles) (s .ime) (movedBack (s .mode) (execOf i (readyOf (further (shapeOf i .more)"
+            " (further 1 (s .pc))) s) m .out)); mem = execOf i (readyOf (further (shapeOf i .more) (further 1 (s .pc))) s) m .mem }",
         ),
     ),
     Change(
         "IF is cleared after the push",
-        ("machine/specs/Interrupts.antt", "use mathlib.Core.List.{_∷_}", "use mathlib.Core.List.{[], _∷_, _++_}"),
-        ("machine/specs/Interrupts.antt", "{Memory, byteAt, store}", "{Memory, byteAt, store, made}"),
         (
             "machine/specs/Interrupts.antt",
-            "storing (pushed .out) (store 0xFF0F (resetOf k (byteAt m 0xFF0F)) ∷ pushed .stores)",
-            "storing (pushed .out) (pushed .stores ++ (store 0xFF0F (resetOf k (byteAt (made (pushed .stores) m) 0xFF0F)) ∷ []))",
+            "dispatchOf k s m = pushedOf (s .pc) (vectoredOf k s) (stored m 0xFF0F (resetOf k (byteAt m 0xFF0F)))",
+            "dispatchOf k s m = record { out = pushedOf (s .pc) (vectoredOf k s) m .out; mem = stored (pushedOf (s .pc) (vectoredOf k s) m .mem)"
+            " 0xFF0F (resetOf k (byteAt (pushedOf (s .pc) (vectoredOf k s) m .mem) 0xFF0F)) }",
         ),
     ),
 ]
@@ -86,29 +85,34 @@ INSTRUCTIONS = [
         "PUSH stores the low byte first",
         (
             "machine/specs/Stack.antt",
-            "(store (back 1 (s .sp)) (highOf w) ∷ store (back 2 (s .sp)) (lowOf w) ∷ [])",
-            "(store (back 1 (s .sp)) (lowOf w) ∷ store (back 2 (s .sp)) (highOf w) ∷ [])",
+            "stored (stored m (back 1 (s .sp)) (highOf w)) (back 2 (s .sp)) (lowOf w)",
+            "stored (stored m (back 1 (s .sp)) (lowOf w)) (back 2 (s .sp)) (highOf w)",
         ),
     ),
     Change(
         "LD [n16],SP at $FFFF does not wrap",
-        ("machine/specs/Memory.antt", "use Prim.Native.Nat.{ℕ}", "use Prim.Native.Nat.{ℕ, _+_}"),
+        ("machine/specs/Memory.antt", "use Prim.Native.Nat.{ℕ, _%_}", "use Prim.Native.Nat.{ℕ, _+_, _%_}"),
         (
             "machine/specs/Memory.antt",
-            "store at (lowOf w) ∷ store (further 1 at) (highOf w) ∷ []",
-            "store at (lowOf w) ∷ store (at + 1) (highOf w) ∷ []",
+            "stored (stored m at (lowOf w)) (further 1 at) (highOf w)",
+            "stored (stored m at (lowOf w)) (at + 1) (highOf w)",
         ),
     ),
     Change(
-        "a refused step moves PC",
-        (STEP, "refusing n s m = stepped n 0 s m", "refusing n s m = stepped n 0 (withPc (further 1 (s .pc)) s) m"),
+        "refusal 4 moves PC",
+        (STEP, "definedStep false i rest s m = refusing 4 s m", "definedStep false i rest s m = refusing 4 (withPc rest s) m"),
     ),
     Change(
         "refusal 4 comes before refusal 3",
         (
             STEP,
-            "    3 when isStopped (s .mode)\n    ∷ 4 when (not (dispatches s m) && not (idles s m) && isUndefined (nextInsn s m))\n",
-            "    4 when (not (dispatches s m) && not (idles s m) && isUndefined (nextInsn s m))\n    ∷ 3 when isStopped (s .mode)\n",
+            "unfoldable pub stoppedStep : Bool",
+            "unfoldable pub firstOf : Bool → ℕ\nfirstOf true = 3\nfirstOf false = 4\n\nunfoldable pub stoppedStep : Bool",
+        ),
+        (
+            STEP,
+            "stoppedStep true s m = refusing 3 s m",
+            "stoppedStep true s m = refusing (firstOf (ltb 0 (shapeOf (insnAt (s .pc) (further 1 (s .pc)) m) .cycles))) s m",
         ),
     ),
     Change(
