@@ -10,7 +10,7 @@ UNFIT = (
     r"has no field",
     r"^`(Inv|μ)-",
     r"not in scope|is not defined|unknown|unbound|no module|cannot find",
-    r"takes? (no|too|\d+) |too many arguments|expects? \d+ argument",
+    r"\btakes (no|too|\d+) |\btake (no|too) |too many arguments|expects? \d+ argument",
     r"error\[",
     r"expected [^:]*, found|parse error|syntax",
     # a step of the program's own in the place of another: the code takes its steps in another order
