@@ -22,29 +22,29 @@ EASY = [
         "in Repeat PC is moved back after the instruction",
         (
             STEP,
-            "-- rule 3; refusal 4",
-            "unfoldable pub movedBack : Mode → Done → Done\n"
-            "movedBack Running d = d\n"
-            "movedBack Repeat d = record { cpu = withPc (back 1 (d .cpu .pc)) (d .cpu); extra = d .extra }\n"
-            "movedBack Halted d = d\n"
-            "movedBack Stopped d = d\n\n"
-            "-- rule 3; refusal 4",
+            "unfoldable pub insnAct :",
+            "unfoldable pub movedBack : Mode → Act → Act\n"
+            "movedBack Running a = a\n"
+            "movedBack Repeat a = record { cycles = a .cycles; cpu = withPc (back 1 (a .cpu .pc)) (a .cpu); stores = a .stores }\n"
+            "movedBack Halted a = a\n"
+            "movedBack Stopped a = a\n\n"
+            "unfoldable pub insnAct :",
         ),
         (STEP, "{further}", "{further, back}"),
         (
             STEP,
-            "finishedOf (shapeOf i .cycles) (s .ime) (execOf i (readyOf (further (shapeOf i .more) rest) s) m)",
-            "record { out = endOf (shapeOf i .cycles) (s .ime) (movedBack (s .mode) (execOf i (readyOf (further (shapeOf i .more)"
-            " (further 1 (s .pc))) s) m .out)); mem = execOf i (readyOf (further (shapeOf i .more) (further 1 (s .pc))) s) m .mem }",
+            "insnAct s m = endOf (shapeOf (nextInsn s m) .cycles) (s .ime) (execOf (nextInsn s m) (readyOf (nextAfter s m) s) m)",
+            "insnAct s m = movedBack (s .mode) (endOf (shapeOf (nextInsn s m) .cycles) (s .ime) (execOf (nextInsn s m)"
+            " (readyOf (further (shapeOf (nextInsn s m) .bytes) (s .pc)) s) m))",
         ),
     ),
     Change(
         "IF is cleared after the push",
+        ("machine/specs/Interrupts.antt", "use mathlib.Core.List.{_∷_}", "use mathlib.Core.List.{[], _∷_, _++_}"),
         (
             "machine/specs/Interrupts.antt",
-            "dispatchOf k s m = pushedOf (s .pc) (vectoredOf k s) (stored m 0xFF0F (resetOf k (byteAt m 0xFF0F)))",
-            "dispatchOf k s m = record { out = pushedOf (s .pc) (vectoredOf k s) m .out; mem = stored (pushedOf (s .pc) (vectoredOf k s) m .mem)"
-            " 0xFF0F (resetOf k (byteAt (pushedOf (s .pc) (vectoredOf k s) m .mem) 0xFF0F)) }",
+            "(store 0xFF0F (resetOf k (byteAt m 0xFF0F)) ∷ pushed .stores)",
+            "(pushed .stores ++ (store 0xFF0F (resetOf k (byteAt m 0xFF0F)) ∷ []))",
         ),
     ),
 ]
@@ -85,35 +85,23 @@ INSTRUCTIONS = [
         "PUSH stores the low byte first",
         (
             "machine/specs/Stack.antt",
-            "stored (stored m (back 1 (s .sp)) (highOf w)) (back 2 (s .sp)) (lowOf w)",
-            "stored (stored m (back 1 (s .sp)) (lowOf w)) (back 2 (s .sp)) (highOf w)",
+            "(store (back 1 (s .sp)) (highOf w) ∷ store (back 2 (s .sp)) (lowOf w) ∷ [])",
+            "(store (back 1 (s .sp)) (lowOf w) ∷ store (back 2 (s .sp)) (highOf w) ∷ [])",
         ),
     ),
     Change(
         "LD [n16],SP at $FFFF does not wrap",
-        ("machine/specs/Memory.antt", "use Prim.Native.Nat.{ℕ, _%_}", "use Prim.Native.Nat.{ℕ, _+_, _%_}"),
-        (
-            "machine/specs/Memory.antt",
-            "stored (stored m at (lowOf w)) (further 1 at) (highOf w)",
-            "stored (stored m at (lowOf w)) (at + 1) (highOf w)",
-        ),
+        ("machine/specs/Memory.antt", "use Prim.Native.Nat.{ℕ}", "use Prim.Native.Nat.{ℕ, _+_}"),
+        ("machine/specs/Memory.antt", "store (further 1 at) (highOf w)", "store (at + 1) (highOf w)"),
     ),
     Change(
-        "refusal 4 moves PC",
-        (STEP, "definedStep false i rest s m = refusing 4 s m", "definedStep false i rest s m = refusing 4 (withPc rest s) m"),
+        "a refused step moves PC",
+        (STEP, "(λ n. refusing n s m)", "(λ n. refusing n (withPc (nextRest s) s) m)"),
     ),
     Change(
         "refusal 4 comes before refusal 3",
-        (
-            STEP,
-            "unfoldable pub stoppedStep : Bool",
-            "unfoldable pub firstOf : Bool → ℕ\nfirstOf true = 3\nfirstOf false = 4\n\nunfoldable pub stoppedStep : Bool",
-        ),
-        (
-            STEP,
-            "stoppedStep true s m = refusing 3 s m",
-            "stoppedStep true s m = refusing (firstOf (ltb 0 (shapeOf (insnAt (s .pc) (further 1 (s .pc)) m) .cycles))) s m",
-        ),
+        (STEP, "    3 when isStopped (s .mode)\n    ∷ 4 when (", "    4 when ("),
+        (STEP, "isUndefined (nextInsn s m))\n    ∷ []", "isUndefined (nextInsn s m))\n    ∷ 3 when isStopped (s .mode)\n    ∷ []"),
     ),
     Change(
         "the numbers of refusals 3 and 4 are exchanged",
