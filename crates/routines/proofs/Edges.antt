@@ -11,7 +11,8 @@ use lib.ListN.{length, getD, length-replicate, getD-replicate}
 use Rattle.arith.specs.Width.{sumOf}
 use Rattle.arith.specs.Words.{further}
 use Rattle.arith.proofs.Laws.{word-back}
-use Rattle.machine.specs.Memory.{byteAt, pendingOf}
+use Rattle.machine.specs.Memory.{byteAt}
+use Rattle.machine.specs.Interrupts.{pendingOf}
 use Rattle.machine.proofs.ReadOverWrite.{stored-length, stored-same, stored-other}
 use Rattle.routines.specs.Decimals.{Decimal}
 use Rattle.routines.specs.Premises.{Apart, Outside, Given}

@@ -7,7 +7,8 @@ use mathlib.Core.Path.{_≡_}
 use lib.ListN.{replicate}
 use Rattle.arith.specs.Words.{highOf, lowOf}
 use Rattle.machine.specs.State.{cpuOf}
-use Rattle.machine.specs.Memory.{stored, pendingOf}
+use Rattle.machine.specs.Memory.{stored}
+use Rattle.machine.specs.Interrupts.{pendingOf}
 use Rattle.machine.specs.declared.Ime.the-variants.{Off}
 use Rattle.machine.specs.declared.Mode.the-variants.{Running}
 use Rattle.machine.specs.declared.Cpu.{Cpu}

@@ -10,8 +10,8 @@ use native.Mathlib.Omega.{arith}
 use borrow.Author.Tests.{ltb-true, ltb-false, eqb-true, eqb-false, leb-true, leb-false}
 use lib.Dec.{eqb, leb, ltb}
 use lib.ListN.{length}
-use Rattle.machine.specs.Answers.{With, keeping}
-use Rattle.machine.specs.Step.{accepting, stepOf}
+use Rattle.machine.specs.Answers.{With}
+use Rattle.machine.specs.Step.{stepped, stepOf}
 use Rattle.machine.specs.Run.{ending, runFrom, runOf}
 use Rattle.machine.specs.declared.Cpu.{Cpu}
 use Rattle.machine.specs.declared.Ran.{Ran}
@@ -19,12 +19,11 @@ use Rattle.machine.specs.declared.Stepped.{Stepped}
 use Rattle.machine.proofs.Costs.{step-paid}
 use Rattle.machine.proofs.Runs.{runOn, run-over, run-refused, run-goes, run-unfit, run-flags, run-budget, run-valid, Told, run-code}
 use Rattle.routines.specs.Steps.{dearer, oneMore, moreSteps, after}
-use Rattle.routines.proofs.Stepping.{both}
 use Rattle.runs.specs.Stepwise.{stepAfter, costs, Stepwise}
 
 -- what `after` is: no step, and one step more than k that were accepted
 
-pub after-none : (s : Cpu) (m : List ℕ) → after 0 s m ≡ accepting 0 (both s m)
+pub after-none : (s : Cpu) (m : List ℕ) → after 0 s m ≡ stepped 0 0 s m
 unfolding after moreSteps
 after-none s m = refl
 
@@ -33,11 +32,11 @@ unfolding moreSteps
 last-step zero w = refl
 last-step (suc k) w = last-step k (oneMore (w .out .code) w)
 
-pub after-more : (k c : ℕ) (s s′ : Cpu) (m m′ : List ℕ) → after k s m ≡ accepting c (both s′ m′)
+pub after-more : (k c : ℕ) (s s′ : Cpu) (m m′ : List ℕ) → after k s m ≡ stepped 0 c s′ m′
     → after (suc k) s m ≡ dearer c (stepOf s′ m′)
 unfolding after oneMore
 after-more k c s s′ m m′ e =
-    last-step k (accepting 0 (both s m)) ∙ ap (λ (w : With Stepped). oneMore (w .out .code) w) e
+    last-step k (stepped 0 0 s m) ∙ ap (λ (w : With Stepped). oneMore (w .out .code) w) e
 
 -- where k + 1 steps are accepted, so are the first k and the one that follows them, and the cycles add up
 record Earlier (w v : With Stepped) : Type 0 where
@@ -54,8 +53,8 @@ module _ (s : Cpu) (m : List ℕ) where
   earlier : (k : ℕ) → after (suc k) s m .out .code ≡ 0 → Earlier (after k s m) (after (suc k) s m)
   unfolding after
   earlier k h =
-      let e = last-step k (accepting 0 (both s m)) in
-      rw e (earlier-at (moreSteps k (accepting 0 (both s m))) _ refl (rw e at h))
+      let e = last-step k (stepped 0 0 s m) in
+      rw e (earlier-at (moreSteps k (stepped 0 0 s m)) _ refl (rw e at h))
 
   fewer : (d k : ℕ) → after (d + k) s m .out .code ≡ 0 → after k s m .out .code ≡ 0
   fewer zero k h = rw zero-add at h
@@ -79,8 +78,8 @@ module _ (s : Cpu) (m : List ℕ) where
 record Onward (b spent steps : ℕ) (s : Cpu) (m : List ℕ) (w : With Ran) : Type 0 where
   count : ℕ
   total : w .out .steps ≡ steps + count
-  taken : moreSteps count (accepting spent (both s m)) ≡ accepting (w .out .spent) (both (w .out .cpu) (w .mem))
-  due : (k : ℕ) → k < count → moreSteps k (accepting spent (both s m)) .out .cycles < b
+  taken : moreSteps count (stepped 0 spent s m) ≡ stepped 0 (w .out .spent) (w .out .cpu) (w .mem)
+  due : (k : ℕ) → k < count → moreSteps k (stepped 0 spent s m) .out .cycles < b
   met : w .out .code ≡ 0 → b ≤ w .out .spent
   below : w .out .code ≢ 0 → w .out .spent < b
   refused : w .out .code ≢ 0 → stepOf (w .out .cpu) (w .mem) .out .code ≡ w .out .code
@@ -115,24 +114,24 @@ module _ (b spent steps : ℕ) (s : Cpu) (m : List ℕ) where
 
   -- the step that is due is accepted
   module _ (p : spent < b) (e : stepOf s m .out .code ≡ 0) where
-    first : (k : ℕ) → moreSteps (suc k) (accepting spent (both s m))
-        ≡ moreSteps k (accepting (spent + stepOf s m .out .cycles) (both (stepOf s m .out .cpu) (stepOf s m .mem)))
+    first : (k : ℕ) → moreSteps (suc k) (stepped 0 spent s m)
+        ≡ moreSteps k (stepped 0 (spent + stepOf s m .out .cycles) (stepOf s m .out .cpu) (stepOf s m .mem))
     unfolding moreSteps oneMore dearer
     first k =
         ap
         (λ (c : ℕ).
         moreSteps k
-        (keeping (record { code = c; cycles = spent + stepOf s m .out .cycles; cpu = stepOf s m .out .cpu }) (stepOf s m .mem)))
+        (stepped c (spent + stepOf s m .out .cycles) (stepOf s m .out .cpu) (stepOf s m .mem)))
         e
 
     module _ (w : With Ran)
         (g : Onward b (spent + stepOf s m .out .cycles) (steps + 1) (stepOf s m .out .cpu) (stepOf s m .mem) w) where
-      due-before : (k : ℕ) → k < suc (g .count) → moreSteps k (accepting spent (both s m)) .out .cycles < b
+      due-before : (k : ℕ) → k < suc (g .count) → moreSteps k (stepped 0 spent s m) .out .cycles < b
       due-before zero h = unfold moreSteps in p
       due-before (suc k) h = rw (first k) (g .due k (omega arith))
 
-      stepped : Onward b spent steps s m w
-      stepped =
+      goes-on : Onward b spent steps s m w
+      goes-on =
           record {
             count = suc (g .count);
             total = g .total ∙ omega arith;
@@ -150,7 +149,7 @@ module _ (b spent steps : ℕ) (s : Cpu) (m : List ℕ) where
       → Onward b spent steps s m (runFrom (suc t) b spent steps s m)
   turn t false d n e rest = rw (run-over b spent steps s m (suc t) (ltb-false _ _ d)) (over (ltb-false _ _ d))
   turn t true d zero e rest =
-      rw (run-goes b spent steps s m t (ltb-true _ _ d) e) (stepped (ltb-true _ _ d) e _ (rest e))
+      rw (run-goes b spent steps s m t (ltb-true _ _ d) e) (goes-on (ltb-true _ _ d) e _ (rest e))
   turn t true d (suc n) e rest =
       rw (run-refused b spent steps s m t n (ltb-true _ _ d) e) (ended n (ltb-true _ _ d) e)
 
@@ -162,9 +161,9 @@ turns (suc t) b spent steps s m p =
 
 -- the turns from the first one on
 module _ (b : ℕ) (s : Cpu) (m : List ℕ) (w : With Ran) (g : Onward b 0 0 s m w) where
-  all-taken : after (w .out .steps) s m ≡ accepting (w .out .spent) (both (w .out .cpu) (w .mem))
+  all-taken : after (w .out .steps) s m ≡ stepped 0 (w .out .spent) (w .out .cpu) (w .mem)
   unfolding after
-  all-taken = ap (λ (k : ℕ). moreSteps k (accepting 0 (both s m))) (g .total ∙ zero-add _) ∙ g .taken
+  all-taken = ap (λ (k : ℕ). moreSteps k (stepped 0 0 s m)) (g .total ∙ zero-add _) ∙ g .taken
 
   none-refused : after (w .out .steps) s m .out .code ≡ 0
   none-refused = ap (λ (v : With Stepped). v .out .code) all-taken

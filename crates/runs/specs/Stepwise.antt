@@ -6,7 +6,7 @@ use mathlib.Core.List.{List}
 use mathlib.Core.Logic.{_≢_}
 use mathlib.Core.Path.{_≡_}
 use Rattle.machine.specs.Answers.{With}
-use Rattle.machine.specs.Step.{accepting, stepOf}
+use Rattle.machine.specs.Step.{stepped, stepOf}
 use Rattle.machine.specs.declared.Cpu.{Cpu}
 use Rattle.machine.specs.declared.Ran.{Ran}
 use Rattle.machine.specs.declared.Stepped.{Stepped}
@@ -24,7 +24,7 @@ costs (suc k) s m = costs k s m + stepAfter k s m .out .cycles
 -- w is the run of a budget b from s and m, step by step
 pub record Stepwise (b : ℕ) (s : Cpu) (m : List ℕ) (w : With Ran) : Type 0 where
   -- the state and the memory are those after `steps` steps, in `spent` cycles
-  pub taken : after (w .out .steps) s m ≡ accepting (w .out .spent) (record { out = w .out .cpu; mem = w .mem })
+  pub taken : after (w .out .steps) s m ≡ stepped 0 (w .out .spent) (w .out .cpu) (w .mem)
   -- each of these steps is accepted, and `spent` is the sum of their costs
   pub accepted : (k : ℕ) → k < w .out .steps → stepAfter k s m .out .code ≡ 0
   pub spent : w .out .spent ≡ costs (w .out .steps) s m
