@@ -16,7 +16,7 @@ fn the_readme_tells_the_truth() {
     assert_eq!(holds(include_str!("../README.md"), &bench), 16);
 }
 
-/// The session in docs/scores.md: two units that disagree about 199 and 1.
+/// The commands of docs/scores.md: two units that disagree about 199 and 1.
 #[test]
 fn the_page_about_scores_tells_the_truth() {
     let bench = Bench::new("scores");
