@@ -17,23 +17,23 @@ use crate::link;
 #[derive(Clone, Copy, PartialEq, Eq, Hash, Debug)]
 #[non_exhaustive]
 pub enum Refusal {
-    /// 1: the memory is not 65,536 bytes long.
+    /// 1: memory length is not 65,536.
     MemoryLength,
-    /// 2: one of the low four bits of F is set.
+    /// 2: low four bits of F are not 0.
     FlagBits,
-    /// 3: the mode is Stopped when a step is due.
+    /// 3: mode is Stopped when a step is due.
     Stopped,
     /// 4: the step would run an undefined opcode.
     UndefinedOpcode,
-    /// 5: the budget is above 1,048,576.
+    /// 5: budget above 1,048,576.
     Budget,
-    /// 6: a head or an image has the wrong length, or what it is to be saved to has.
+    /// 6: head, image or output slice of wrong length.
     Length,
-    /// 7: the version byte is not 1.
+    /// 7: version byte is not 1.
     Version,
-    /// 8: a length in the head is not 14, or not 65,536.
+    /// 8: a block length is not 14, or not 65,536.
     BlockLength,
-    /// 9: the code of IME is above 2, or the code of the mode above 3.
+    /// 9: IME code above 2, or mode code above 3.
     StateCode,
 }
 

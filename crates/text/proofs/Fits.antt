@@ -74,10 +74,6 @@ number-most : (n : ℕ) → length (numberThen n) ≤ 11
 unfolding numberThen
 number-most n = rw length-append (omega (arith, decimal-most n))
 
-word-length : (w : ℕ) → length (wordThen w) ≡ 5
-unfolding wordThen hexOf
-word-length w = refl
-
 registers-length : (s : Cpu) → length (registersLine s) ≡ 30
 unfolding registersLine wordThen hexOf
 registers-length s = refl
