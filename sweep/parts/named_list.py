@@ -22,19 +22,19 @@ EASY = [
         "in Repeat PC is moved back after the instruction",
         (
             STEP,
-            "unfoldable pub insnAct :",
+            "unfoldable pub instructionAct :",
             "unfoldable pub movedBack : Mode → Act → Act\n"
             "movedBack Running a = a\n"
             "movedBack Repeat a = record { cycles = a .cycles; cpu = withPc (back 1 (a .cpu .pc)) (a .cpu); stores = a .stores }\n"
             "movedBack Halted a = a\n"
             "movedBack Stopped a = a\n\n"
-            "unfoldable pub insnAct :",
+            "unfoldable pub instructionAct :",
         ),
         (STEP, "{further}", "{further, back}"),
         (
             STEP,
-            "insnAct s m = endOf (shapeOf (nextInsn s m) .cycles) (s .ime) (execOf (nextInsn s m) (readyOf (nextAfter s m) s) m)",
-            "insnAct s m = movedBack (s .mode) (endOf (shapeOf (nextInsn s m) .cycles) (s .ime) (execOf (nextInsn s m)"
+            "instructionAct s m = endOf (shapeOf (nextInsn s m) .cycles) (s .ime) (execOf (nextInsn s m) (readyOf (nextAfter s m) s) m)",
+            "instructionAct s m = movedBack (s .mode) (endOf (shapeOf (nextInsn s m) .cycles) (s .ime) (execOf (nextInsn s m)"
             " (readyOf (further (shapeOf (nextInsn s m) .bytes) (s .pc)) s) m))",
         ),
     ),
@@ -75,7 +75,7 @@ INSTRUCTIONS = [
     Change("a taken JR cc costs 2 cycles", ("machine/src/jumps.rt", "extra: 1,", "extra: 0,")),
     Change(
         "CALL pushes the address before",
-        ("machine/src/stack.rt", "let pc = self.pc;", "let pc = words::back_by(3, self.pc);"),
+        ("machine/src/stack.rt", "let pc = self.pc;", "let pc = words::back(3, self.pc);"),
     ),
     Change(
         "POP AF keeps the low bits",
@@ -130,7 +130,7 @@ CHEATS = [
         "memory is never touched, by the definition",
         ("machine/specs/Memory.antt", "stored m at v = set m at v", "stored m at v = set m at (byteAt m at)"),
     ),
-    Change("a step does the work of a whole run", (RUN, "turns(cpu, mem, 1)", "turns(cpu, mem, 1048576)")),
+    Change("a step does the work of a whole run", (RUN, "run_within(cpu, mem, 1)", "run_within(cpu, mem, 1048576)")),
     Change("the cycles of a step are invented", (RUN, "cycles: (r.spent % 256) as u8,", "cycles: (r.steps % 256) as u8,")),
     Change("the cycles of a run are invented", (RUN, "    Ran {\n        code: 0,\n        spent,", "    Ran {\n        code: 0,\n        spent: budget,")),
     Change(

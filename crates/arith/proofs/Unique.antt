@@ -18,8 +18,8 @@ use Rattle.arith.proofs.rotates.rotate_a.Reads as rotate-a
 use Rattle.arith.proofs.words.word.Reads as word
 use Rattle.arith.proofs.words.high.Reads as high
 use Rattle.arith.proofs.words.low.Reads as low
-use Rattle.arith.proofs.words.on.Reads as on
-use Rattle.arith.proofs.words.back_by.Reads as back-by
+use Rattle.arith.proofs.words.further.Reads as on
+use Rattle.arith.proofs.words.back.Reads as back
 use Rattle.arith.proofs.words.offset.Reads as offset
 use Rattle.arith.proofs.words.add_hl.Reads as add-hl
 use Rattle.arith.proofs.words.add_sp.Reads as add-sp
@@ -88,8 +88,8 @@ low-unique _ _ _ _ _ _ = same
 pub on-unique : OneAnswer on.Post
 on-unique _ _ _ _ _ _ = same
 
-pub back-by-unique : OneAnswer back-by.Post
-back-by-unique _ _ _ _ _ _ = same
+pub back-unique : OneAnswer back.Post
+back-unique _ _ _ _ _ _ = same
 
 pub offset-unique : OneAnswer offset.Post
 offset-unique _ _ _ _ _ _ = same

@@ -24,14 +24,14 @@ pub fn low(w: u16) -> u8
 }
 
 // n further, modulo 65,536.
-pub fn on(n: u16, w: u16) -> u16
+pub fn further(n: u16, w: u16) -> u16
     ensures { λ r. ⌜ r ≡ further n w ⌝ }
 {
     std::num::wrapping_add_u16(w, n)
 }
 
 // n back, modulo 65,536.
-pub fn back_by(n: u16, w: u16) -> u16
+pub fn back(n: u16, w: u16) -> u16
     ensures { λ r. ⌜ r ≡ back n w ⌝ }
 {
     std::num::wrapping_sub_u16(w, n)

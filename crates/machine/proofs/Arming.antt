@@ -9,13 +9,13 @@ use mathlib.Core.Path.{_≡_, refl, _∙_, ap}
 use Rattle.insn.specs.declared.Insn.{Insn}
 use Rattle.insn.specs.declared.Insn.the-variants.{Nop, StoreSp, Stop, Jr, JrIf, LoadPair, AddHl, StoreAt, LoadAt, IncPair, DecPair, Inc, Dec, Load, RotateA, Daa, Cpl, Scf, Ccf, Halt, Math, RetIf, StoreHigh, AddSp, LoadHigh, LoadHlSp, Pop, Ret, Reti, JumpHl, LoadSpHl, JumpIf, StoreHighC, StoreTo, LoadHighC, LoadFrom, Jump, Rotate, Bit, Res, Set, Di, Ei, CallIf, Push, Call, Rst, Undefined}
 use Rattle.machine.specs.Answers.{Storing, storing}
-use Rattle.machine.specs.State.{withSp, withIme, hlOf, setHl}
+use Rattle.machine.specs.State.{withSp, withIme, hlOf, withHl}
 use Rattle.machine.specs.Stack.{pushedOf, returnedTo, calledOf}
 use Rattle.machine.specs.Execute.{execOf, resultOf, addedToHlOf, addedToSpOf, hlFromSpOf, storedTo, storedAtOf, loadedFrom, complementedOf, withCarryOf, haltedOf}
 use Rattle.machine.specs.Memory.{wordStores}
 use Rattle.machine.specs.Modes.{isOff, isOn, armedOf, settledIme}
 use Rattle.machine.specs.Interrupts.{pendingOf, dispatchDueOf}
-use Rattle.machine.specs.Step.{dispatches, idles, nextInsn, nextAfter, readyOf, endOf, insnAct, stepOf}
+use Rattle.machine.specs.Step.{dispatches, idles, nextInsn, nextAfter, readyOf, endOf, instructionAct, stepOf}
 use Rattle.machine.specs.declared.Ime.{Ime}
 use Rattle.machine.specs.declared.Ime.the-variants.{Off, Arming, On}
 use Rattle.machine.specs.declared.Cpu.{Cpu}
@@ -34,7 +34,7 @@ pub data Uses (i : Insn) (s : Cpu) (m : List ℕ) : Type 0 where
       → Uses i s m
 
 pub exec-uses : (i : Insn) (s : Cpu) (m : List ℕ) → Uses i s m
-unfolding execOf resultOf addedToHlOf addedToSpOf hlFromSpOf hlOf setHl wordStores storedTo storedAtOf loadedFrom complementedOf withCarryOf haltedOf returnedTo calledOf pushedOf
+unfolding execOf resultOf addedToHlOf addedToSpOf hlFromSpOf hlOf withHl wordStores storedTo storedAtOf loadedFrom complementedOf withCarryOf haltedOf returnedTo calledOf pushedOf
 exec-uses Nop s m = leaves (λ _ _. refl)
 exec-uses (StoreSp w) s m = leaves (λ _ _. refl)
 exec-uses Stop s m = leaves (λ _ _. refl)
@@ -184,33 +184,33 @@ module _ (s : Cpu) (m : List ℕ) where
   unfolding readyOf
   switched = exec-switched (nextInsn s m) (readyOf (nextAfter s m) s) m
 
-  insn-ime : insnAct s m .cpu .ime ≡ settledIme (s .ime) ended
-  unfolding insnAct endOf
+  insn-ime : instructionAct s m .cpu .ime ≡ settledIme (s .ime) ended
+  unfolding instructionAct endOf
   insn-ime = refl
 
   -- from a start t it ends with u
   abbrev Ends : Ime → Ime → Type 0
   Ends t u = Switched t (nextInsn s m) ended → settledIme t ended ≡ u
 
-  pub arming-on : s .ime ≡ Arming → nextInsn s m ≢ Di → insnAct s m .cpu .ime ≡ On
+  pub arming-on : s .ime ≡ Arming → nextInsn s m ≢ Di → instructionAct s m .cpu .ime ≡ On
   arming-on e d = insn-ime ∙ being (λ t. Ends t On) e (λ h. from-arming h d) switched
 
-  pub on-stays : s .ime ≡ On → nextInsn s m ≢ Di → insnAct s m .cpu .ime ≡ On
+  pub on-stays : s .ime ≡ On → nextInsn s m ≢ Di → instructionAct s m .cpu .ime ≡ On
   on-stays e d = insn-ime ∙ being (λ t. Ends t On) e (λ h. from-on h d) switched
 
-  pub off-stays : s .ime ≡ Off → nextInsn s m ≢ Ei → nextInsn s m ≢ Reti → insnAct s m .cpu .ime ≡ Off
+  pub off-stays : s .ime ≡ Off → nextInsn s m ≢ Ei → nextInsn s m ≢ Reti → instructionAct s m .cpu .ime ≡ Off
   off-stays e i r = insn-ime ∙ being (λ t. Ends t Off) e (λ h. from-off h i r) switched
 
   -- DI: Off; RETI: On at once; EI: Off becomes Arming
-  pub di-off : nextInsn s m ≡ Di → insnAct s m .cpu .ime ≡ Off
+  pub di-off : nextInsn s m ≡ Di → instructionAct s m .cpu .ime ≡ Off
   unfolding execOf
   di-off e = insn-ime ∙ being (λ i. settledIme (s .ime) (doneIme i) ≡ Off) e (to-off (s .ime))
 
-  pub reti-on : nextInsn s m ≡ Reti → insnAct s m .cpu .ime ≡ On
+  pub reti-on : nextInsn s m ≡ Reti → instructionAct s m .cpu .ime ≡ On
   unfolding execOf
   reti-on e = insn-ime ∙ being (λ i. settledIme (s .ime) (doneIme i) ≡ On) e (to-on (s .ime))
 
-  pub ei-arming : nextInsn s m ≡ Ei → s .ime ≡ Off → insnAct s m .cpu .ime ≡ Arming
+  pub ei-arming : nextInsn s m ≡ Ei → s .ime ≡ Off → instructionAct s m .cpu .ime ≡ Arming
   unfolding execOf readyOf settledIme armedOf
   ei-arming e o =
       insn-ime

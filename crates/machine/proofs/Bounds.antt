@@ -33,14 +33,14 @@ use Rattle.insn.specs.declared.Pointer.the-variants as pointer
 use Rattle.insn.specs.declared.Insn.{Insn}
 use Rattle.insn.specs.declared.Insn.the-variants.{Nop, StoreSp, Stop, Jr, JrIf, LoadPair, AddHl, StoreAt, LoadAt, IncPair, DecPair, Inc, Dec, Load, RotateA, Daa, Cpl, Scf, Ccf, Halt, Math, RetIf, StoreHigh, AddSp, LoadHigh, LoadHlSp, Pop, Ret, Reti, JumpHl, LoadSpHl, JumpIf, StoreHighC, StoreTo, LoadHighC, LoadFrom, Jump, Rotate, Bit, Res, Set, Di, Ei, CallIf, Push, Call, Rst, Undefined}
 use Rattle.insn.proofs.Sound.{SoundOperand, Sound as SoundInsn, place-sound, decode-sound}
-use Rattle.machine.specs.State.{withF, regOf, withReg, hlOf, setHl, withPair, withStacked}
+use Rattle.machine.specs.State.{withF, registerOf, withRegister, hlOf, withHl, withPair, withStacked}
 use Rattle.machine.specs.Answers.{With, Storing, storing, storeless}
 use Rattle.machine.specs.Memory.{byteAt, wordAt, Store, store, wordStores, stored, made}
 use Rattle.machine.specs.Stack.{pushedOf, returnedTo, calledOf}
 use Rattle.machine.specs.Operands.{valueOf, heldOf, placedOf, updatedOf, movedOf}
 use Rattle.machine.specs.Execute.{done, plainly, execOf, resultOf, addedToHlOf, addedToSpOf, hlFromSpOf, jumpedIf, calledIf, returnedIf, storedTo, storedAtOf, loadedFrom, complementedOf, withCarryOf, haltedOf}
 use Rattle.machine.specs.Interrupts.{pendingOf, lowestSet, lowestOf, vectoredOf, dispatchOf}
-use Rattle.machine.specs.Step.{act, accepting, nextRest, nextInsn, nextAfter, readyOf, endOf, insnAct, ruleOf, stepRefusals, stepOf}
+use Rattle.machine.specs.Step.{act, accepting, nextRest, nextInsn, nextAfter, readyOf, endOf, instructionAct, ruleOf, stepRefusals, stepOf}
 use Rattle.machine.specs.declared.Cpu.{Cpu}
 use Rattle.machine.specs.declared.Done.{Done}
 use Rattle.machine.specs.declared.Stepped.{Stepped}
@@ -55,8 +55,8 @@ pub word-at-below : (m : List ℕ) (at : ℕ) → Bytes m → wordAt m at < 6553
 unfolding wordAt
 word-at-below m at b = word-below _ _ (b _) (b at)
 
-pub reg-below : (r : Register) (s : Cpu) → Sound s → regOf r s < 256
-unfolding regOf
+pub reg-below : (r : Register) (s : Cpu) → Sound s → registerOf r s < 256
+unfolding registerOf
 reg-below reg.B s h = h .b
 reg-below reg.C s h = h .c
 reg-below reg.D s h = h .d
@@ -81,8 +81,8 @@ held-below p s m h b = value-below (operandOf p) s m (place-sound p) h b
 
 -- what is set
 
-reg-sound : (r : Register) (v : ℕ) (s : Cpu) → v < 256 → Sound s → Sound (withReg r v s)
-unfolding withReg
+reg-sound : (r : Register) (v : ℕ) (s : Cpu) → v < 256 → Sound s → Sound (withRegister r v s)
+unfolding withRegister
 reg-sound reg.B v s p h = omega arith
 reg-sound reg.C v s p h = omega arith
 reg-sound reg.D v s p h = omega arith
@@ -92,14 +92,14 @@ reg-sound reg.L v s p h = omega arith
 reg-sound reg.A v s p h = omega arith
 
 pair-sound : (rp : Pair) (w : ℕ) (s : Cpu) → w < 65536 → Sound s → Sound (withPair rp w s)
-unfolding withPair setHl
+unfolding withPair withHl
 pair-sound pair.Bc w s p h = omega (arith, high-below w, low-below w)
 pair-sound pair.De w s p h = omega (arith, high-below w, low-below w)
 pair-sound pair.Hl w s p h = omega (arith, high-below w, low-below w)
 pair-sound pair.Sp w s p h = omega arith
 
 stacked-sound : (rp : Stacked) (w : ℕ) (s : Cpu) → Sound s → Sound (withStacked rp w s)
-unfolding withStacked setHl
+unfolding withStacked withHl
 stacked-sound stacked.Bc w s h = omega (arith, high-below w, low-below w)
 stacked-sound stacked.De w s h = omega (arith, high-below w, low-below w)
 stacked-sound stacked.Hl w s h = omega (arith, high-below w, low-below w)
@@ -108,8 +108,8 @@ stacked-sound stacked.Af w s h = omega (arith, high-below w, low-below w)
 flags-sound : (f : ℕ) (s : Cpu) → f < 256 → Sound s → Sound (withF f s)
 flags-sound f s p h = omega arith
 
-hl-sound : (w : ℕ) (s : Cpu) → Sound s → Sound (setHl w s)
-unfolding setHl
+hl-sound : (w : ℕ) (s : Cpu) → Sound s → Sound (withHl w s)
+unfolding withHl
 hl-sound w s h = omega (arith, high-below w, low-below w)
 
 moved-sound : (p : Pointer) (s : Cpu) → Sound s → Sound (movedOf p s)
@@ -229,7 +229,7 @@ same-low : {f g : ℕ} → g ≡ f → f % 16 ≡ 0 → g % 16 ≡ 0
 same-low e p = rw e p
 
 stacked-low : (rp : Stacked) (w : ℕ) (s : Cpu) → s .f % 16 ≡ 0 → withStacked rp w s .f % 16 ≡ 0
-unfolding withStacked setHl
+unfolding withStacked withHl
 stacked-low stacked.Bc w s p = p
 stacked-low stacked.De w s p = p
 stacked-low stacked.Hl w s p = p
@@ -308,7 +308,7 @@ module _ {i : Insn} {s : Cpu} {m : List ℕ} where
 
 -- every instruction
 pub executed : (i : Insn) (s : Cpu) (m : List ℕ) → Executed i s m (execOf i s m)
-unfolding execOf wordStores resultOf addedToHlOf addedToSpOf hlFromSpOf setHl storedTo storedAtOf loadedFrom complementedOf withCarryOf haltedOf rotationOf rotationAOf returnedTo calledOf pushedOf updatedOf
+unfolding execOf wordStores resultOf addedToHlOf addedToSpOf hlFromSpOf withHl storedTo storedAtOf loadedFrom complementedOf withCarryOf haltedOf rotationOf rotationAOf returnedTo calledOf pushedOf updatedOf
 executed Nop s m = plain kept
 executed (StoreSp w) s m = does kept (two (low-below (s .sp)) (high-below (s .sp)))
 executed Stop s m = plain (same refl (λ i h b. omega arith))
@@ -399,8 +399,8 @@ module _ (s : Cpu) (m : List ℕ) (h : Sound s) (b : Bytes m) where
   unfolding readyOf nextAfter
   ready-sound = omega (arith, further-below (shapeOf (nextInsn s m) .bytes - 1) (nextRest s))
 
-  insn-sound : SoundStep (accepting (insnAct s m) m)
-  unfolding insnAct endOf
+  insn-sound : SoundStep (accepting (instructionAct s m) m)
+  unfolding instructionAct endOf
   insn-sound =
       let r = executed (nextInsn s m) (readyOf (nextAfter s m) s) m .state .sound next-sound ready-sound b in
       record {

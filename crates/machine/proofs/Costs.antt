@@ -10,12 +10,12 @@ use Rattle.insn.specs.declared.Insn.{Insn}
 use Rattle.insn.proofs.Laws.{cycles-most}
 use Rattle.machine.specs.Answers.{With}
 use Rattle.machine.specs.Execute.{execOf}
-use Rattle.machine.specs.Step.{nextInsn, nextAfter, readyOf, endOf, insnAct, ruleOf, dueRefusals, stepRefusals, stepUnless, stepOf}
+use Rattle.machine.specs.Step.{nextInsn, nextAfter, readyOf, endOf, instructionAct, ruleOf, dueRefusals, stepRefusals, stepUnless, dueStep, stepOf}
 use Rattle.machine.specs.declared.Cpu.{Cpu}
 use Rattle.machine.specs.declared.Stepped.{Stepped}
 use Rattle.machine.proofs.Bounds.{executed}
-use Rattle.machine.proofs.Rules.{ruled, by-outcome, by-rules}
-use Rattle.machine.proofs.Refused.{ruled-least, step-least}
+use Rattle.machine.proofs.Rules.{by-outcome, by-rules}
+use Rattle.machine.proofs.Refused.{due-least, step-least}
 
 pub insn-most : (i : Insn) (s : Cpu) (m : List ℕ) → shapeOf i .cycles + execOf i s m .out .extra ≤ 6
 insn-most i s m = omega (arith, cycles-most i, executed i s m .extra)
@@ -27,7 +27,7 @@ pub record Paid (w : With Stepped) : Type 0 where
 
 module _ (s : Cpu) (m : List ℕ) where
   rule-most : ruleOf s m .cycles ≤ 6
-  unfolding insnAct endOf
+  unfolding instructionAct endOf
   rule-most =
       by-rules (λ a. a .cycles ≤ 6) s m
       record {
@@ -39,8 +39,8 @@ module _ (s : Cpu) (m : List ℕ) where
   most-of : (rs : List Refusal) → stepUnless rs (ruleOf s m) s m .out .cycles ≤ 6
   most-of = by-outcome (λ w. w .out .cycles ≤ 6) (ruleOf s m) s m (λ _. omega arith) rule-most
 
-  pub ruled-paid : Paid (ruled s m)
-  ruled-paid = record { least = ruled-least s m; most = most-of (dueRefusals s m) }
+  pub due-paid : Paid (dueStep s m)
+  due-paid = record { least = due-least s m; most = most-of (dueRefusals s m) }
 
   pub step-paid : Paid (stepOf s m)
   unfolding stepOf

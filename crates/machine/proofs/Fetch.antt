@@ -15,12 +15,11 @@ use Rattle.machine.specs.Execute.{execOf}
 use Rattle.machine.specs.State.{withIme}
 use Rattle.machine.specs.Memory.{byteAt, wordAt}
 use Rattle.machine.specs.Modes.{settledIme}
-use Rattle.machine.specs.Step.{Act, refusing, accepting, nextRest, nextInsn, nextAfter, readyOf, endOf, insnAct}
+use Rattle.machine.specs.Step.{Act, refusing, accepting, nextRest, nextInsn, nextAfter, readyOf, endOf, instructionAct, instructionStep}
 use Rattle.machine.specs.declared.Ime.{Ime}
 use Rattle.machine.specs.declared.Ime.the-variants.{Off}
 use Rattle.machine.specs.declared.Cpu.{Cpu}
 use Rattle.machine.proofs.Arming.{settled-first}
-use Rattle.machine.proofs.Stages.{instructed}
 
 module _ (s : Cpu) (m : List ℕ) (d : Decoded)
     (read : d ≡ decodedOf (byteAt m (s .pc)) (byteAt m (nextRest s)) (wordAt m (nextRest s))) where
@@ -40,14 +39,14 @@ module _ (s : Cpu) (m : List ℕ) (d : Decoded)
   unfolding shapedOf nextAfter
   more-told = rw shaped
 
-  pub undefined-here : d .cycles ≡ 0 → instructed s m ≡ refusing 4 s m
+  pub undefined-here : d .cycles ≡ 0 → instructionStep s m ≡ refusing 4 s m
   unfolding order
   undefined-here e = rw (← insn-told, undefined-is, ← cycles-told, e)
 
   pub runs-here : (ime : Ime) → ime ≡ settledIme (s .ime) (s .ime) → d .cycles ≢ 0
-      → instructed s m
+      → instructionStep s m
       ≡ accepting (endOf (d .cycles) Off (execOf (d .insn) (withIme ime (readyOf (further (d .more) (nextRest s)) s)) m)) m
-  unfolding order readyOf insnAct
+  unfolding order readyOf instructionAct
   runs-here ime e ne =
       rw (← insn-told, undefined-is, ← cycles-told, ← more-told, ne-eqb (d .cycles) 0 ne, e)
       (ap (λ (a : Act). accepting a m) (settled-first (d .cycles) (d .insn) (readyOf (further (d .more) (nextRest s)) s) m))

@@ -20,7 +20,7 @@ use Rattle.insn.specs.declared.Stacked.the-variants as stacked
 use Rattle.insn.specs.declared.Pointer.{Pointer}
 use Rattle.insn.specs.declared.Pointer.the-variants as pointer
 use Rattle.machine.specs.Answers.{storing}
-use Rattle.machine.specs.State.{withF, withIme, regOf, withReg, hlOf, setHl, pairOf, withPair, stackedOf, withStacked}
+use Rattle.machine.specs.State.{withF, withIme, registerOf, withRegister, hlOf, withHl, pairOf, withPair, stackedOf, withStacked}
 use Rattle.machine.specs.Stack.{pushedOf, returnedTo, calledOf}
 use Rattle.machine.specs.Operands.{valueOf, heldOf, placedOf, updatedOf, pointedOf, movedOf}
 use Rattle.machine.specs.Execute.{jumpedIf, calledIf, returnedIf}
@@ -30,8 +30,8 @@ use Rattle.machine.specs.declared.Done.{Done}
 
 -- F
 
-pub reg-same : (r : Register) (v : ℕ) (s : Cpu) → withReg r v s .f ≡ s .f
-unfolding withReg
+pub reg-same : (r : Register) (v : ℕ) (s : Cpu) → withRegister r v s .f ≡ s .f
+unfolding withRegister
 reg-same reg.B v s = refl
 reg-same reg.C v s = refl
 reg-same reg.D v s = refl
@@ -41,14 +41,14 @@ reg-same reg.L v s = refl
 reg-same reg.A v s = refl
 
 pub pair-same : (rp : Pair) (w : ℕ) (s : Cpu) → withPair rp w s .f ≡ s .f
-unfolding withPair setHl
+unfolding withPair withHl
 pair-same pair.Bc w s = refl
 pair-same pair.De w s = refl
 pair-same pair.Hl w s = refl
 pair-same pair.Sp w s = refl
 
 pub moved-same : (p : Pointer) (s : Cpu) → movedOf p s .f ≡ s .f
-unfolding movedOf setHl
+unfolding movedOf withHl
 moved-same pointer.Bc s = refl
 moved-same pointer.De s = refl
 moved-same pointer.Hli s = refl
@@ -92,8 +92,8 @@ abbrev pub imed : Ime → Done → Done
 imed u d = record { cpu = withIme u (d .cpu); extra = d .extra }
 
 module _ (u : Ime) (s : Cpu) where
-  reg-read : (r : Register) → regOf r (withIme u s) ≡ regOf r s
-  unfolding regOf
+  reg-read : (r : Register) → registerOf r (withIme u s) ≡ registerOf r s
+  unfolding registerOf
   reg-read reg.B = refl
   reg-read reg.C = refl
   reg-read reg.D = refl
@@ -133,8 +133,8 @@ module _ (u : Ime) (s : Cpu) where
   pointed-read pointer.Hli = refl
   pointed-read pointer.Hld = refl
 
-  reg-left : (r : Register) (v : ℕ) → withReg r v (withIme u s) ≡ withIme u (withReg r v s)
-  unfolding withReg
+  reg-left : (r : Register) (v : ℕ) → withRegister r v (withIme u s) ≡ withIme u (withRegister r v s)
+  unfolding withRegister
   reg-left reg.B v = refl
   reg-left reg.C v = refl
   reg-left reg.D v = refl
@@ -156,21 +156,21 @@ module _ (u : Ime) (s : Cpu) where
   placed-left place.A v = rw reg-left
 
   pub pair-left : (rp : Pair) (w : ℕ) → withPair rp w (withIme u s) ≡ withIme u (withPair rp w s)
-  unfolding withPair setHl
+  unfolding withPair withHl
   pair-left pair.Bc w = refl
   pair-left pair.De w = refl
   pair-left pair.Hl w = refl
   pair-left pair.Sp w = refl
 
   pub stacked-left : (rp : Stacked) (w : ℕ) → withStacked rp w (withIme u s) ≡ withIme u (withStacked rp w s)
-  unfolding withStacked setHl
+  unfolding withStacked withHl
   stacked-left stacked.Bc w = refl
   stacked-left stacked.De w = refl
   stacked-left stacked.Hl w = refl
   stacked-left stacked.Af w = refl
 
   pub moved-left : (p : Pointer) → movedOf p (withIme u s) ≡ withIme u (movedOf p s)
-  unfolding movedOf setHl hlOf
+  unfolding movedOf withHl hlOf
   moved-left pointer.Bc = refl
   moved-left pointer.De = refl
   moved-left pointer.Hli = refl

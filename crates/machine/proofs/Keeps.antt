@@ -7,11 +7,11 @@ use lib.ListN.{length}
 use Rattle.arith.specs.Refusals.{Refusal}
 use Rattle.machine.specs.Stack.{pushedOf}
 use Rattle.machine.specs.Interrupts.{dispatchOf, vectoredOf}
-use Rattle.machine.specs.Step.{nextInsn, nextAfter, readyOf, endOf, insnAct, ruleOf, dueRefusals, stepRefusals, stepUnless, stepOf}
+use Rattle.machine.specs.Step.{nextInsn, nextAfter, readyOf, endOf, instructionAct, ruleOf, dueRefusals, stepRefusals, stepUnless, dueStep, stepOf}
 use Rattle.machine.specs.declared.Cpu.{Cpu}
 use Rattle.machine.proofs.Bounds.{executed}
 use Rattle.machine.proofs.ReadOverWrite.{made-length}
-use Rattle.machine.proofs.Rules.{ruled, by-outcome, by-rules}
+use Rattle.machine.proofs.Rules.{by-outcome, by-rules}
 
 -- length
 
@@ -24,7 +24,7 @@ step-length s m =
 
 module _ (s : Cpu) (m : List ℕ) (p : s .f % 16 ≡ 0) where
   rule-low : ruleOf s m .cpu .f % 16 ≡ 0
-  unfolding readyOf insnAct endOf dispatchOf vectoredOf pushedOf
+  unfolding readyOf instructionAct endOf dispatchOf vectoredOf pushedOf
   rule-low =
       by-rules (λ a. a .cpu .f % 16 ≡ 0) s m
       record { dispatch = p; idle = p; insn = executed (nextInsn s m) (readyOf (nextAfter s m) s) m .state .low p }
@@ -32,8 +32,8 @@ module _ (s : Cpu) (m : List ℕ) (p : s .f % 16 ≡ 0) where
   low-of : (rs : List Refusal) → stepUnless rs (ruleOf s m) s m .out .cpu .f % 16 ≡ 0
   low-of = by-outcome (λ w. w .out .cpu .f % 16 ≡ 0) (ruleOf s m) s m (λ _. p) rule-low
 
-  pub ruled-low : ruled s m .out .cpu .f % 16 ≡ 0
-  ruled-low = low-of (dueRefusals s m)
+  pub due-low : dueStep s m .out .cpu .f % 16 ≡ 0
+  due-low = low-of (dueRefusals s m)
 
   pub step-low : stepOf s m .out .cpu .f % 16 ≡ 0
   unfolding stepOf

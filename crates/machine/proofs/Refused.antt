@@ -13,10 +13,10 @@ use Rattle.insn.specs.Shapes.{shapeOf, isUndefined}
 use Rattle.insn.proofs.Laws.{undefinedBytes, among, undefined-is, undefined-bytes}
 use Rattle.machine.specs.Answers.{With}
 use Rattle.machine.specs.Memory.{byteAt}
-use Rattle.machine.specs.Step.{Act, refusing, accepting, dispatches, idles, nextRest, nextInsn, endOf, insnAct, ruleBy, ruleOf, inputRefusals, dueRefusals, stepRefusals, stepUnless, stepOf}
+use Rattle.machine.specs.Step.{Act, refusing, accepting, dispatches, idles, nextRest, nextInsn, endOf, instructionAct, ruleBy, ruleOf, inputRefusals, dueRefusals, stepRefusals, stepUnless, dueStep, stepOf}
 use Rattle.machine.specs.declared.Cpu.{Cpu}
 use Rattle.machine.specs.declared.Stepped.{Stepped}
-use Rattle.machine.proofs.Rules.{ruled, by-outcome}
+use Rattle.machine.proofs.Rules.{by-outcome}
 
 -- where w is refused it is s and m with no cycles
 pub record Unmoved (s : Cpu) (m : List ℕ) (w : With Stepped) : Type 0 where
@@ -41,8 +41,8 @@ module _ (rs : List Refusal) (a : Act) (s : Cpu) (m : List ℕ) where
   unless-code = at-code (codeOf rs)
 
 module _ (s : Cpu) (m : List ℕ) where
-  pub ruled-unmoved : Unmoved s m (ruled s m)
-  ruled-unmoved = unless-unmoved (dueRefusals s m) (ruleOf s m) s m
+  pub due-unmoved : Unmoved s m (dueStep s m)
+  due-unmoved = unless-unmoved (dueRefusals s m) (ruleOf s m) s m
 
   pub step-unmoved : Unmoved s m (stepOf s m)
   unfolding stepOf
@@ -69,13 +69,13 @@ module _ (s : Cpu) (m : List ℕ) where
       numbered (suc (suc (suc (suc k)))) l = absurd (omega arith)
 
   -- the numbers: 0, 3 and 4 of valid input, 0 to 4 of any
-  pub ruled-code-least : ruled s m .out .code ≢ 0 → 3 ≤ ruled s m .out .code
+  pub due-code-least : dueStep s m .out .code ≢ 0 → 3 ≤ dueStep s m .out .code
   unfolding dueRefusals
-  ruled-code-least = rw (unless-code (dueRefusals s m) (ruleOf s m) s m) (code-within 3 4 (dueRefusals s m) refl .0)
+  due-code-least = rw (unless-code (dueRefusals s m) (ruleOf s m) s m) (code-within 3 4 (dueRefusals s m) refl .0)
 
-  pub ruled-code-most : ruled s m .out .code ≤ 4
+  pub due-code-most : dueStep s m .out .code ≤ 4
   unfolding dueRefusals
-  ruled-code-most = rw (unless-code (dueRefusals s m) (ruleOf s m) s m) (code-within 3 4 (dueRefusals s m) refl .1)
+  due-code-most = rw (unless-code (dueRefusals s m) (ruleOf s m) s m) (code-within 3 4 (dueRefusals s m) refl .1)
 
   pub step-code-most : stepOf s m .out .code ≤ 4
   unfolding inputRefusals dueRefusals stepRefusals
@@ -91,7 +91,7 @@ module _ (s : Cpu) (m : List ℕ) where
 
 module _ (s : Cpu) (m : List ℕ) where
   rule-least : (d i : Bool) → (not d && not i && isUndefined (nextInsn s m)) ≡ false → 1 ≤ ruleBy d i s m .cycles
-  unfolding ruleBy insnAct endOf
+  unfolding ruleBy instructionAct endOf
   rule-least true i e = omega arith
   rule-least false true e = omega arith
   rule-least false false e = omega (arith, eqb-false (shapeOf (nextInsn s m) .cycles) 0 (sym (undefined-is (nextInsn s m)) ∙ e))
@@ -100,9 +100,9 @@ module _ (s : Cpu) (m : List ℕ) where
   unfolding unlessRefused
   least-of rs e p = rw e p
 
-  pub ruled-least : ruled s m .out .code ≡ 0 → 1 ≤ ruled s m .out .cycles
+  pub due-least : dueStep s m .out .code ≡ 0 → 1 ≤ dueStep s m .out .cycles
   unfolding dueRefusals ruleOf
-  ruled-least e =
+  due-least e =
       let none = sym (unless-code (dueRefusals s m) (ruleOf s m) s m) ∙ e in
       least-of (dueRefusals s m) none (rule-least (dispatches s m) (idles s m) (refused-none (dueRefusals s m) refl .0 none .1 .0))
 

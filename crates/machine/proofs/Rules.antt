@@ -1,6 +1,5 @@
 -- Principles for laws of a step: what holds of a refusal and of an accepted act holds of a step behind any refusals, and what holds
--- of the dispatch, of the idle step and of the instruction at PC holds of the act. `ruled` is the step behind the refusals of its
--- input.
+-- of the dispatch, of the idle step and of the instruction at PC holds of the act.
 -- Assumes nothing.
 use Prim.Native.Nat.{ℕ, suc, _%_}
 use mathlib.Core.Bool.{Bool, true, false, not, _&&_}
@@ -16,7 +15,7 @@ use Rattle.arith.proofs.Refusals.{by-code}
 use Rattle.machine.specs.Answers.{With, storeless}
 use Rattle.machine.specs.Modes.{isOn, isHalted, isStopped}
 use Rattle.machine.specs.Interrupts.{pendingOf, lowestOf, dispatchDueOf, dispatchOf}
-use Rattle.machine.specs.Step.{Act, act, refusing, accepting, dispatches, idles, insnAct, ruleBy, ruleOf, inputRefusals, dueRefusals, stepRefusals, stepUnless, stepOf}
+use Rattle.machine.specs.Step.{Act, act, refusing, accepting, dispatches, idles, instructionAct, ruleBy, ruleOf, inputRefusals, dueRefusals, stepRefusals, stepUnless, dueStep, stepOf}
 use Rattle.machine.specs.declared.Ime.{Ime}
 use Rattle.machine.specs.declared.Ime.the-variants.{Off, Arming, On}
 use Rattle.machine.specs.declared.Mode.{Mode}
@@ -34,7 +33,7 @@ by-outcome P a s m refused accepted rs = by-code P (λ _. accepting a m) (λ n. 
 pub record Rules (Q : Act → Type 0) (s : Cpu) (m : List ℕ) : Type 0 where
   pub dispatch : Q (act 5 (dispatchOf (lowestOf (pendingOf m)) s m))
   pub idle : Q (act 1 (storeless s))
-  pub insn : Q (insnAct s m)
+  pub insn : Q (instructionAct s m)
 
 module _ (Q : Act → Type 0) (s : Cpu) (m : List ℕ) (r : Rules Q s m) where
   at-rules : (d i : Bool) → Q (ruleBy d i s m)
@@ -47,20 +46,16 @@ module _ (Q : Act → Type 0) (s : Cpu) (m : List ℕ) (r : Rules Q s m) where
   unfolding ruleOf
   by-rules = at-rules _ _
 
--- a step of valid input: refusals 3 and 4, and then the rules
-abbrev pub ruled : Cpu → List ℕ → With Stepped
-ruled s m = stepUnless (dueRefusals s m) (ruleOf s m) s m
-
-pub step-ruled : (s : Cpu) (m : List ℕ) → length m ≡ 65536 → s .f % 16 ≡ 0 → stepOf s m ≡ ruled s m
+pub step-due : (s : Cpu) (m : List ℕ) → length m ≡ 65536 → s .f % 16 ≡ 0 → stepOf s m ≡ dueStep s m
 unfolding order inputRefusals stepRefusals stepOf
-step-ruled s m l f = rw (eq-eqb _ _ l, eq-eqb _ _ f)
+step-due s m l f = rw (eq-eqb _ _ l, eq-eqb _ _ f)
 
 -- a step that is accepted, and is neither a dispatch nor idle, is the instruction at PC
 pub step-insn : (s : Cpu) (m : List ℕ) → dispatches s m ≡ false → idles s m ≡ false → stepOf s m .out .code ≡ 0
-    → stepOf s m ≡ accepting (insnAct s m) m
+    → stepOf s m ≡ accepting (instructionAct s m) m
 unfolding ruleOf ruleBy stepOf
 step-insn s m d i =
-    by-outcome (λ w. w .out .code ≡ 0 → w ≡ accepting (insnAct s m) m) (ruleOf s m) s m (λ n c. absurd (omega arith)) (λ _. rw (d, i))
+    by-outcome (λ w. w .out .code ≡ 0 → w ≡ accepting (instructionAct s m) m) (ruleOf s m) s m (λ n c. absurd (omega arith)) (λ _. rw (d, i))
     (stepRefusals s m)
 
 -- the tests in document 01's words

@@ -3,7 +3,6 @@
 -- Assumes nothing.
 use Prim.Native.Nat.{ℕ, zero, suc, _+_, _-_, _%_, _<_, _≤_}
 use mathlib.Core.Bool.{Bool, true, false}
-use mathlib.Core.List.{List}
 use mathlib.Core.Logic.{_≢_}
 use mathlib.Core.Path.{_≡_, refl, sym, ap, _∙_}
 use native.Mathlib.Nat.{zero-add, add-zero, add-assoc}
@@ -14,6 +13,7 @@ use lib.ListN.{length}
 use Rattle.arith.specs.Refusals.{codeOf, unlessRefused, order}
 use Rattle.arith.proofs.Refusals.{by-code}
 use Rattle.machine.specs.Answers.{With}
+use Rattle.machine.specs.Memory.{Memory, memorySize}
 use Rattle.machine.specs.Step.{stepOf}
 use Rattle.machine.specs.Run.{ending, whileBelow, afterStep, runFrom, runRefusals, runOf, runs}
 use Rattle.machine.specs.declared.Cpu.{Cpu}
@@ -21,16 +21,17 @@ use Rattle.machine.specs.declared.Ran.{Ran}
 use Rattle.machine.specs.declared.Stepped.{Stepped}
 use Rattle.machine.proofs.Costs.{step-paid}
 use Rattle.machine.proofs.Keeps.{step-length, step-low}
-use Rattle.machine.proofs.Refused.{step-unmoved, ruled-code-least, ruled-code-most}
-use Rattle.machine.proofs.Rules.{step-ruled}
+use Rattle.machine.proofs.Refused.{step-unmoved, due-code-least, due-code-most}
+use Rattle.machine.proofs.Rules.{step-due}
+use Rattle.machine.proofs.Stages.{stage-unfit, stage-flags}
 
 -- a turn of a run: nothing is due, the step is refused, or it is accepted
-data Turn (b spent : ℕ) (s : Cpu) (m : List ℕ) : Type 0 where
+data Turn (b spent : ℕ) (s : Cpu) (m : Memory) : Type 0 where
   over : b ≤ spent → Turn b spent s m
   refused : (n : ℕ) → spent < b → stepOf s m .out .code ≡ suc n → Turn b spent s m
   goes : spent < b → stepOf s m .out .code ≡ 0 → Turn b spent s m
 
-module _ (b spent : ℕ) (s : Cpu) (m : List ℕ) where
+module _ (b spent : ℕ) (s : Cpu) (m : Memory) where
   by-answer : spent < b → (n : ℕ) → stepOf s m .out .code ≡ n → Turn b spent s m
   by-answer p zero e = goes p e
   by-answer p (suc n) e = refused n p e
@@ -43,12 +44,12 @@ module _ (b spent : ℕ) (s : Cpu) (m : List ℕ) where
   turn = by-budget _ refl
 
 -- the run after the step that is due
-abbrev pub runOn : ℕ → ℕ → ℕ → ℕ → Cpu → List ℕ → With Ran
+abbrev pub runOn : ℕ → ℕ → ℕ → ℕ → Cpu → Memory → With Ran
 runOn t b spent steps s m =
     runFrom t b (spent + stepOf s m .out .cycles) (steps + 1) (stepOf s m .out .cpu) (stepOf s m .mem)
 
 -- the run at such a turn
-module _ (b spent steps : ℕ) (s : Cpu) (m : List ℕ) where
+module _ (b spent steps : ℕ) (s : Cpu) (m : Memory) where
   pub run-over : (t : ℕ) → b ≤ spent → runFrom t b spent steps s m ≡ ending 0 spent steps s m
   unfolding runFrom whileBelow
   run-over zero p = refl
@@ -72,7 +73,7 @@ stepsTaken (suc n) = 0
 abbrev pub oneStep : With Stepped → With Ran
 oneStep w = ending (w .out .code) (w .out .cycles) (stepsTaken (w .out .code)) (w .out .cpu) (w .mem)
 
-step-run-at : (s : Cpu) (m : List ℕ) → Turn 1 0 s m
+step-run-at : (s : Cpu) (m : Memory) → Turn 1 0 s m
     → runFrom 1 1 0 0 s m ≡ oneStep (stepOf s m)
 unfolding stepsTaken
 step-run-at s m (over p) = absurd (omega arith)
@@ -83,13 +84,9 @@ step-run-at s m (refused n p e) =
 step-run-at s m (goes p e) =
     run-goes 1 0 0 s m 0 p e ∙ run-over 1 _ 1 _ _ 0 (omega (arith, step-paid s m .least e)) ∙ rw (e, zero-add)
 
-pub step-is-run : (s : Cpu) (m : List ℕ)
-    → runFrom 1 1 0 0 s m ≡ oneStep (stepOf s m)
-step-is-run s m = step-run-at s m (turn 1 0 s m)
-
 -- fuel: with as many turns as the budget has cycles left, more turns change nothing
 
-fuel-at : (t t′ b spent steps : ℕ) (s : Cpu) (m : List ℕ) → Turn b spent s m
+fuel-at : (t t′ b spent steps : ℕ) (s : Cpu) (m : Memory) → Turn b spent s m
     → (stepOf s m .out .code ≡ 0
     → runOn t b spent steps s m
     ≡ runOn t′ b spent steps s m)
@@ -99,7 +96,7 @@ fuel-at t t′ b spent steps s m (refused n p e) k =
     run-refused b spent steps s m t n p e ∙ sym (run-refused b spent steps s m t′ n p e)
 fuel-at t t′ b spent steps s m (goes p e) k = run-goes b spent steps s m t p e ∙ k e ∙ sym (run-goes b spent steps s m t′ p e)
 
-pub fuel : (t t′ b spent steps : ℕ) (s : Cpu) (m : List ℕ) → b ≤ spent + t → b ≤ spent + t′
+pub fuel : (t t′ b spent steps : ℕ) (s : Cpu) (m : Memory) → b ≤ spent + t → b ≤ spent + t′
     → runFrom t b spent steps s m ≡ runFrom t′ b spent steps s m
 fuel zero t′ b spent steps s m p q =
     run-over b spent steps s m 0 (omega arith) ∙ sym (run-over b spent steps s m t′ (omega arith))
@@ -109,7 +106,7 @@ fuel (suc t) (suc t′) b spent steps s m p q =
     fuel-at t t′ b spent steps s m (turn b spent s m)
     (λ e. fuel t t′ b _ _ _ _ (omega (arith, step-paid s m .least e)) (omega (arith, step-paid s m .least e)))
 
-pub fuel-enough : (b n : ℕ) (s : Cpu) (m : List ℕ) → runFrom b b 0 0 s m ≡ runFrom (b + n) b 0 0 s m
+pub fuel-enough : (b n : ℕ) (s : Cpu) (m : Memory) → runFrom b b 0 0 s m ≡ runFrom (b + n) b 0 0 s m
 fuel-enough b n s m = fuel b (b + n) b 0 0 s m (omega arith) (omega arith)
 
 -- counts: a run that ends with 0 has spent its budget and at most 5 more, and each step has spent at least one cycle
@@ -119,14 +116,14 @@ pub record Counted (b : ℕ) (w : With Ran) : Type 0 where
   pub most : w .out .spent ≤ b + 5
   pub steps : w .out .steps ≤ w .out .spent
 
-counted-at : (t b spent steps : ℕ) (s : Cpu) (m : List ℕ) → Turn b spent s m → spent ≤ b + 5 → steps ≤ spent
+counted-at : (t b spent steps : ℕ) (s : Cpu) (m : Memory) → Turn b spent s m → spent ≤ b + 5 → steps ≤ spent
     → (spent < b → stepOf s m .out .code ≡ 0 → Counted b (runOn t b spent steps s m))
     → Counted b (runFrom (suc t) b spent steps s m)
 counted-at t b spent steps s m (over p) q r k = rw (run-over b spent steps s m (suc t) p) (omega arith)
 counted-at t b spent steps s m (refused n p e) q r k = rw (run-refused b spent steps s m t n p e) (omega arith)
 counted-at t b spent steps s m (goes p e) q r k = rw (run-goes b spent steps s m t p e) (k p e)
 
-pub counted : (t b spent steps : ℕ) (s : Cpu) (m : List ℕ) → b ≤ spent + t → spent ≤ b + 5 → steps ≤ spent
+pub counted : (t b spent steps : ℕ) (s : Cpu) (m : Memory) → b ≤ spent + t → spent ≤ b + 5 → steps ≤ spent
     → Counted b (runFrom t b spent steps s m)
 counted zero b spent steps s m p q r = rw (run-over b spent steps s m 0 (omega arith)) (omega arith)
 counted (suc t) b spent steps s m p q r =
@@ -135,55 +132,67 @@ counted (suc t) b spent steps s m p q r =
     counted t b _ _ _ _ (omega (arith, step-paid s m .least e)) (omega (arith, step-paid s m .most))
     (omega (arith, step-paid s m .least e)))
 
-pub run-counted : (b : ℕ) (s : Cpu) (m : List ℕ) → Counted b (runFrom b b 0 0 s m)
+pub run-counted : (b : ℕ) (s : Cpu) (m : Memory) → Counted b (runFrom b b 0 0 s m)
 run-counted b s m = counted b b 0 0 s m (omega arith) (omega arith) (omega arith)
 
 -- refusals 1, 2 and 5, in their order, and then the turns
-pub run-unfit : (b : ℕ) (s : Cpu) (m : List ℕ) → length m ≢ 65536 → runOf b s m ≡ ending 1 0 0 s m
+pub run-unfit : (b : ℕ) (s : Cpu) (m : Memory) → length m ≢ 65536 → runOf b s m ≡ ending 1 0 0 s m
 unfolding order runs
 run-unfit b s m l = rw (ne-eqb _ _ l)
 
-pub run-flags : (b : ℕ) (s : Cpu) (m : List ℕ) → length m ≡ 65536 → s .f % 16 ≢ 0 → runOf b s m ≡ ending 2 0 0 s m
+pub run-flags : (b : ℕ) (s : Cpu) (m : Memory) → length m ≡ 65536 → s .f % 16 ≢ 0 → runOf b s m ≡ ending 2 0 0 s m
 unfolding order runs
 run-flags b s m l f = rw (eq-eqb _ _ l, ne-eqb _ _ f)
 
-pub run-budget : (b : ℕ) (s : Cpu) (m : List ℕ) → length m ≡ 65536 → s .f % 16 ≡ 0 → 1048576 < b
+pub run-budget : (b : ℕ) (s : Cpu) (m : Memory) → length m ≡ 65536 → s .f % 16 ≡ 0 → 1048576 < b
     → runOf b s m ≡ ending 5 0 0 s m
 unfolding order runs
 run-budget b s m l f p = rw (eq-eqb _ _ l, eq-eqb _ _ f, lt-ltb _ _ p)
 
-pub run-valid : (b : ℕ) (s : Cpu) (m : List ℕ) → length m ≡ 65536 → s .f % 16 ≡ 0 → b ≤ 1048576
+pub run-valid : (b : ℕ) (s : Cpu) (m : Memory) → length m ≡ 65536 → s .f % 16 ≡ 0 → b ≤ 1048576
     → runOf b s m ≡ runFrom b b 0 0 s m
 unfolding order runs
 run-valid b s m l f p = rw (eq-eqb _ _ l, eq-eqb _ _ f, le-ltb _ _ p)
 
+-- a step is the run of budget 1, refusals 1 and 2 too
+pub step-is-run : (s : Cpu) (m : Memory) → runOf 1 s m ≡ oneStep (stepOf s m)
+unfolding stepsTaken
+step-is-run s m = by-tests _ _ refl refl
+  where
+    by-tests : (l f : Bool) → eqb (length m) memorySize ≡ l → eqb (s .f % 16) 0 ≡ f → runOf 1 s m ≡ oneStep (stepOf s m)
+    by-tests false f p q = run-unfit 1 s m (eqb-false _ _ p) ∙ rw (stage-unfit s m (eqb-false _ _ p))
+    by-tests true false p q =
+        run-flags 1 s m (eqb-true _ _ p) (eqb-false _ _ q) ∙ rw (stage-flags s m (eqb-true _ _ p) (eqb-false _ _ q))
+    by-tests true true p q =
+        run-valid 1 s m (eqb-true _ _ p) (eqb-true _ _ q) (omega arith) ∙ step-run-at s m (turn 1 0 s m)
+
 -- budget 0 takes no step
-pub run-none : (s : Cpu) (m : List ℕ) → length m ≡ 65536 → s .f % 16 ≡ 0 → runOf 0 s m ≡ ending 0 0 0 s m
+pub run-none : (s : Cpu) (m : Memory) → length m ≡ 65536 → s .f % 16 ≡ 0 → runOf 0 s m ≡ ending 0 0 0 s m
 unfolding runFrom
 run-none s m l f = run-valid 0 s m l f (omega arith)
 
 -- what holds of the turns and of every refused run holds of a run
-pub by-run : (P : With Ran → Type 0) (b : ℕ) (s : Cpu) (m : List ℕ) → ((n : ℕ) → P (ending (suc n) 0 0 s m))
+pub by-run : (P : With Ran → Type 0) (b : ℕ) (s : Cpu) (m : Memory) → ((n : ℕ) → P (ending (suc n) 0 0 s m))
     → P (runFrom b b 0 0 s m) → P (runOf b s m)
 unfolding runOf
 by-run P b s m r q = by-code P (λ _. runFrom b b 0 0 s m) (λ n. ending n 0 0 s m) r q (codeOf (runRefusals b s m))
 
 -- counts of a run with its refusals
-pub run-of-counted : (b : ℕ) (s : Cpu) (m : List ℕ) → Counted b (runOf b s m)
+pub run-of-counted : (b : ℕ) (s : Cpu) (m : Memory) → Counted b (runOf b s m)
 run-of-counted b s m = by-run (Counted b) b s m (λ _. omega arith) (run-counted b s m)
 
 -- what each step keeps, a run keeps
 
-keeps-at : (P : Cpu → List ℕ → Type 0) (t b spent steps : ℕ) (s : Cpu) (m : List ℕ) → Turn b spent s m → P s m
+keeps-at : (P : Cpu → Memory → Type 0) (t b spent steps : ℕ) (s : Cpu) (m : Memory) → Turn b spent s m → P s m
     → (let w = runOn t b spent steps s m in P (w .out .cpu) (w .mem))
     → (let w = runFrom (suc t) b spent steps s m in P (w .out .cpu) (w .mem))
 keeps-at P t b spent steps s m (over p) h k = rw (run-over b spent steps s m (suc t) p) h
 keeps-at P t b spent steps s m (refused n p e) h k = rw (run-refused b spent steps s m t n p e) h
 keeps-at P t b spent steps s m (goes p e) h k = rw (run-goes b spent steps s m t p e) k
 
-pub run-keeps : (P : Cpu → List ℕ → Type 0)
-    → ((s : Cpu) (m : List ℕ) → P s m → P (stepOf s m .out .cpu) (stepOf s m .mem))
-    → (t b spent steps : ℕ) (s : Cpu) (m : List ℕ) → P s m
+pub run-keeps : (P : Cpu → Memory → Type 0)
+    → ((s : Cpu) (m : Memory) → P s m → P (stepOf s m .out .cpu) (stepOf s m .mem))
+    → (t b spent steps : ℕ) (s : Cpu) (m : Memory) → P s m
     → (let w = runFrom t b spent steps s m in P (w .out .cpu) (w .mem))
 unfolding runFrom
 run-keeps P k zero b spent steps s m h = h
@@ -192,28 +201,28 @@ run-keeps P k (suc t) b spent steps s m h =
 
 -- valid input stays valid, and then a run ends with 0, 3 or 4
 
-pub record Valid (s : Cpu) (m : List ℕ) : Type 0 where
+pub record Valid (s : Cpu) (m : Memory) : Type 0 where
   pub long : length m ≡ 65536
   pub low : s .f % 16 ≡ 0
 
-pub step-valid : (s : Cpu) (m : List ℕ) → Valid s m → Valid (stepOf s m .out .cpu) (stepOf s m .mem)
+pub step-valid : (s : Cpu) (m : Memory) → Valid s m → Valid (stepOf s m .out .cpu) (stepOf s m .mem)
 step-valid s m v = record { long = step-length s m ∙ v .long; low = step-low s m (v .low) }
 
 -- the numbers of such a run
 abbrev pub Told : With Ran → Type 0
 Told w = (w .out .code ≢ 0 → 3 ≤ w .out .code) × (w .out .code ≤ 4)
 
-told-at : (t b spent steps : ℕ) (s : Cpu) (m : List ℕ) → Turn b spent s m → Valid s m
+told-at : (t b spent steps : ℕ) (s : Cpu) (m : Memory) → Turn b spent s m → Valid s m
     → Told (runOn t b spent steps s m)
     → Told (runFrom (suc t) b spent steps s m)
 told-at t b spent steps s m (over p) v k = rw (run-over b spent steps s m (suc t) p) (omega arith)
 told-at t b spent steps s m (refused n p e) v k =
-    let f = ap (λ (w : With Stepped). w .out .code) (step-ruled s m (v .long) (v .low)) in
-    let c = ruled-code-least s m (omega arith) in
-    rw (run-refused b spent steps s m t n p e) (omega (arith, ruled-code-most s m))
+    let f = ap (λ (w : With Stepped). w .out .code) (step-due s m (v .long) (v .low)) in
+    let c = due-code-least s m (omega arith) in
+    rw (run-refused b spent steps s m t n p e) (omega (arith, due-code-most s m))
 told-at t b spent steps s m (goes p e) v k = rw (run-goes b spent steps s m t p e) k
 
-pub run-code : (t b spent steps : ℕ) (s : Cpu) (m : List ℕ) → Valid s m
+pub run-code : (t b spent steps : ℕ) (s : Cpu) (m : Memory) → Valid s m
     → Told (runFrom t b spent steps s m)
 unfolding runFrom
 run-code zero b spent steps s m v = omega arith
@@ -226,7 +235,7 @@ run-code (suc t) b spent steps s m v =
 abbrev pub after : ℕ → ℕ → With Ran → With Ran
 after c k w = ending (w .out .code) (c + w .out .spent) (k + w .out .steps) (w .out .cpu) (w .mem)
 
-shift-at : (t b c k spent steps : ℕ) (s : Cpu) (m : List ℕ) → Turn (b - c) spent s m
+shift-at : (t b c k spent steps : ℕ) (s : Cpu) (m : Memory) → Turn (b - c) spent s m
     → (stepOf s m .out .code ≡ 0
     → runFrom t b (c + (spent + stepOf s m .out .cycles)) (k + (steps + 1)) (stepOf s m .out .cpu) (stepOf s m .mem)
     ≡ after c k (runOn t (b - c) spent steps s m))
@@ -241,7 +250,7 @@ shift-at t b c k spent steps s m (goes p e) h =
     rw (long, short, add-assoc, add-assoc) (h e)
 
 -- counting on from c cycles and k steps is counting from 0 with the budget that is left
-pub shift : (t b c k spent steps : ℕ) (s : Cpu) (m : List ℕ)
+pub shift : (t b c k spent steps : ℕ) (s : Cpu) (m : Memory)
     → runFrom t b (c + spent) (k + steps) s m ≡ after c k (runFrom t (b - c) spent steps s m)
 unfolding runFrom
 shift zero b c k spent steps s m = refl
@@ -254,12 +263,12 @@ resumed B w =
     (λ _. after (w .out .spent) (w .out .steps) (runFrom (B - w .out .spent) (B - w .out .spent) 0 0 (w .out .cpu) (w .mem)))
     (λ _. w)
 
-onward : (T B spent steps : ℕ) (s : Cpu) (m : List ℕ) → B ≤ spent + T
+onward : (T B spent steps : ℕ) (s : Cpu) (m : Memory) → B ≤ spent + T
     → runFrom T B spent steps s m ≡ after spent steps (runFrom (B - spent) (B - spent) 0 0 s m)
 onward T B spent steps s m p =
     fuel T (B - spent) B spent steps s m p (omega arith) ∙ (simp add-zero at (shift (B - spent) B spent steps 0 0 s m))
 
-split-at : (t T b B spent steps : ℕ) (s : Cpu) (m : List ℕ) → Turn b spent s m → b ≤ B → B ≤ spent + suc T
+split-at : (t T b B spent steps : ℕ) (s : Cpu) (m : Memory) → Turn b spent s m → b ≤ B → B ≤ spent + suc T
     → (stepOf s m .out .code ≡ 0
     → runOn T B spent steps s m
     ≡ resumed B (runOn t b spent steps s m))
@@ -272,7 +281,7 @@ split-at t T b B spent steps s m (refused n p e) o q h =
 split-at t T b B spent steps s m (goes p e) o q h =
     rw (run-goes b spent steps s m t p e, run-goes B spent steps s m T (omega arith) e) (h e)
 
-pub split : (t T b B spent steps : ℕ) (s : Cpu) (m : List ℕ) → b ≤ B → b ≤ spent + t → B ≤ spent + T
+pub split : (t T b B spent steps : ℕ) (s : Cpu) (m : Memory) → b ≤ B → b ≤ spent + t → B ≤ spent + T
     → runFrom T B spent steps s m ≡ resumed B (runFrom t b spent steps s m)
 split zero T b B spent steps s m o p q =
     rw (run-over b spent steps s m 0 (omega arith)) (unfold resumed unlessRefused in onward T B spent steps s m q)
@@ -282,7 +291,7 @@ split (suc t) (suc T) b B spent steps s m o p q =
     split-at t T b B spent steps s m (turn b spent s m) o q
     (λ e. split t T b B _ _ _ _ o (omega (arith, step-paid s m .least e)) (omega (arith, step-paid s m .least e)))
 
-pub slices : (b B : ℕ) (s : Cpu) (m : List ℕ) → b ≤ B → runFrom B B 0 0 s m ≡ resumed B (runFrom b b 0 0 s m)
+pub slices : (b B : ℕ) (s : Cpu) (m : Memory) → b ≤ B → runFrom B B 0 0 s m ≡ resumed B (runFrom b b 0 0 s m)
 slices b B s m o = split b B b B 0 0 s m o (omega arith) (omega arith)
 
 -- the same of whole runs, refusals and all: a host may slice a budget as it likes
@@ -297,7 +306,7 @@ continued-valid : (B : ℕ) (w : With Ran) → B ≤ 1048576 → Valid (w .out .
 unfolding continued resumed
 continued-valid B w p v = rw (run-valid (B - w .out .spent) (w .out .cpu) (w .mem) (v .long) (v .low) (omega arith))
 
-slices-at : (b B : ℕ) (s : Cpu) (m : List ℕ) (l f : Bool)
+slices-at : (b B : ℕ) (s : Cpu) (m : Memory) (l f : Bool)
     → eqb (length m) 65536 ≡ l → eqb (s .f % 16) 0 ≡ f → b ≤ B → B ≤ 1048576
     → runOf B s m ≡ continued B (runOf b s m)
 slices-at b B s m true true l f o p =
@@ -314,15 +323,15 @@ slices-at b B s m true false l f o p =
 slices-at b B s m false f l e o p =
     rw (run-unfit b s m (eqb-false _ _ l), run-unfit B s m (eqb-false _ _ l)) (unfold continued unlessRefused in refl)
 
-pub run-slices : (b B : ℕ) (s : Cpu) (m : List ℕ) → b ≤ B → B ≤ 1048576 → runOf B s m ≡ continued B (runOf b s m)
+pub run-slices : (b B : ℕ) (s : Cpu) (m : Memory) → b ≤ B → B ≤ 1048576 → runOf B s m ≡ continued B (runOf b s m)
 run-slices b B s m o p = slices-at b B s m _ _ refl refl o p
 
-pub slice-done : (b B : ℕ) (s : Cpu) (m : List ℕ) → b ≤ B → B ≤ 1048576 → runOf b s m .out .code ≡ 0
+pub slice-done : (b B : ℕ) (s : Cpu) (m : Memory) → b ≤ B → B ≤ 1048576 → runOf b s m .out .code ≡ 0
     → runOf B s m ≡ (let w = runOf b s m in after (w .out .spent) (w .out .steps) (runOf (B - w .out .spent) (w .out .cpu) (w .mem)))
 unfolding continued unlessRefused
 slice-done b B s m o p e = run-slices b B s m o p ∙ rw e
 
-pub slice-refused : (b B : ℕ) (s : Cpu) (m : List ℕ) → b ≤ B → B ≤ 1048576 → runOf b s m .out .code ≢ 0
+pub slice-refused : (b B : ℕ) (s : Cpu) (m : Memory) → b ≤ B → B ≤ 1048576 → runOf b s m .out .code ≢ 0
     → runOf B s m ≡ runOf b s m
 unfolding continued unlessRefused
 slice-refused b B s m o p e = run-slices b B s m o p ∙ at (runOf b s m .out .code) refl

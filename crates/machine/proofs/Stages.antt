@@ -15,12 +15,12 @@ use Rattle.insn.specs.Shapes.{isUndefined}
 use Rattle.machine.specs.Answers.{With, storeless}
 use Rattle.machine.specs.Modes.{isOn, isHalted, isStopped}
 use Rattle.machine.specs.Interrupts.{pendingOf, lowestOf, dispatchDueOf, dispatchOf}
-use Rattle.machine.specs.Step.{act, refusing, accepting, dispatches, idles, pastFirst, nextRest, nextInsn, insnAct, ruleBy, ruleOf, inputRefusals, dueRefusals, stepRefusals, stepUnless, stepOf}
+use Rattle.machine.specs.Step.{act, refusing, accepting, dispatches, idles, pastFirst, nextRest, nextInsn, instructionAct, ruleBy, ruleOf, inputRefusals, dueRefusals, stepRefusals, stepUnless, instructionStep, dueStep, stepOf}
 use Rattle.machine.specs.declared.Ime.the-variants.{Off}
 use Rattle.machine.specs.declared.Mode.the-variants.{Running}
 use Rattle.machine.specs.declared.Cpu.{Cpu}
 use Rattle.machine.specs.declared.Stepped.{Stepped}
-use Rattle.machine.proofs.Rules.{ruled, idle-is}
+use Rattle.machine.proofs.Rules.{idle-is}
 
 module _ (s : Cpu) (m : List ℕ) where
   pub stage-unfit : length m ≢ 65536 → stepOf s m ≡ refusing 1 s m
@@ -32,7 +32,7 @@ module _ (s : Cpu) (m : List ℕ) where
   stage-flags p q = rw (eq-eqb (length m) 65536 p, ne-eqb (s .f % 16) 0 q)
 
   -- Halted with nothing pending is neither Stopped nor due for a dispatch
-  pub stage-idle : (isHalted (s .mode) && eqb (pendingOf m) 0) ≡ true → ruled s m ≡ accepting (act 1 (storeless s)) m
+  pub stage-idle : (isHalted (s .mode) && eqb (pendingOf m) 0) ≡ true → dueStep s m ≡ accepting (act 1 (storeless s)) m
   unfolding order isStopped isHalted dispatchDueOf dispatches idles dueRefusals ruleBy ruleOf
   stage-idle p =
       let h = idle-is (s .mode) (pendingOf m) .0 p in
@@ -40,21 +40,17 @@ module _ (s : Cpu) (m : List ℕ) where
       let quiet : dispatches s m ≡ false = rw (h .1, and-false) in
       rw (run, quiet, p)
 
-  pub stage-stopped : isStopped (s .mode) ≡ true → ruled s m ≡ refusing 3 s m
+  pub stage-stopped : isStopped (s .mode) ≡ true → dueStep s m ≡ refusing 3 s m
   unfolding order dueRefusals
   stage-stopped p = rw p
 
   pub stage-dispatch : isStopped (s .mode) ≡ false → dispatchDueOf (s .ime) (pendingOf m) ≡ true
-      → ruled s m ≡ accepting (act 5 (dispatchOf (lowestOf (pendingOf m)) s m)) m
+      → dueStep s m ≡ accepting (act 5 (dispatchOf (lowestOf (pendingOf m)) s m)) m
   unfolding order dispatches dueRefusals ruleBy ruleOf
   stage-dispatch p q = rw (p, q)
 
-  -- the instruction, unless it is undefined
-  abbrev pub instructed : With Stepped
-  instructed = stepUnless (4 when isUndefined (nextInsn s m) ∷ []) (insnAct s m) s m
-
   pub stage-insn : isStopped (s .mode) ≡ false → dispatchDueOf (s .ime) (pendingOf m) ≡ false
-      → (isHalted (s .mode) && eqb (pendingOf m) 0) ≡ false → ruled s m ≡ instructed
+      → (isHalted (s .mode) && eqb (pendingOf m) 0) ≡ false → dueStep s m ≡ instructionStep s m
   unfolding order dispatches idles dueRefusals ruleBy ruleOf
   stage-insn p q r = rw (p, q, r)
 
@@ -63,6 +59,6 @@ module _ (s : Cpu) (m : List ℕ) where
   unfolding pastFirst nextRest
   quiet-rest r = rw r
 
-  pub stage-quiet : s .mode ≡ Running → s .ime ≡ Off → ruled s m ≡ instructed
+  pub stage-quiet : s .mode ≡ Running → s .ime ≡ Off → dueStep s m ≡ instructionStep s m
   unfolding isStopped isHalted isOn dispatchDueOf
   stage-quiet r o = stage-insn (rw r) (rw o) (rw r)

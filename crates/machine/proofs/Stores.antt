@@ -10,7 +10,7 @@ use Rattle.arith.specs.Refusals.{codeOf, unlessRefused}
 use Rattle.machine.specs.Memory.{byteAt, Store, made}
 use Rattle.machine.specs.Stack.{pushedOf}
 use Rattle.machine.specs.Interrupts.{dispatchOf}
-use Rattle.machine.specs.Step.{Act, refusing, accepting, nextInsn, nextAfter, readyOf, endOf, insnAct, ruleOf, stepRefusals, stepOf}
+use Rattle.machine.specs.Step.{Act, refusing, accepting, nextInsn, nextAfter, readyOf, endOf, instructionAct, ruleOf, stepRefusals, stepOf}
 use Rattle.machine.specs.declared.Cpu.{Cpu}
 use Rattle.machine.proofs.Bounds.{executed}
 use Rattle.machine.proofs.ReadOverWrite.{Spared, made-other}
@@ -43,7 +43,7 @@ module _ (s : Cpu) (m : List ℕ) where
 
   -- a dispatch stores three bytes, an instruction at most two
   rule-few : length (ruleOf s m .stores) ≤ 3
-  unfolding dispatchOf pushedOf insnAct endOf
+  unfolding dispatchOf pushedOf instructionAct endOf
   rule-few =
       by-rules (λ a. length (a .stores) ≤ 3) s m
       record {

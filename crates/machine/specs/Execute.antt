@@ -19,7 +19,7 @@ use Rattle.insn.specs.declared.Insn.{Insn}
 use Rattle.insn.specs.declared.Insn.the-variants.{Nop, StoreSp, Stop, Jr, JrIf, LoadPair, AddHl, StoreAt, LoadAt, IncPair, DecPair, Inc, Dec, Load, RotateA, Daa, Cpl, Scf, Ccf, Halt, Math, RetIf, StoreHigh, AddSp, LoadHigh, LoadHlSp, Pop, Ret, Reti, JumpHl, LoadSpHl, JumpIf, StoreHighC, StoreTo, LoadHighC, LoadFrom, Jump, Rotate, Bit, Res, Set, Di, Ei, CallIf, Push, Call, Rst, Undefined}
 use Rattle.machine.specs.Memory.{Memory, byteAt, wordAt, store, wordStores}
 use Rattle.machine.specs.Answers.{Storing, storing, storeless}
-use Rattle.machine.specs.State.{withF, withAf, withSp, withPc, withIme, withMode, regOf, withReg, hlOf, setHl, pairOf, withPair, stackedOf, withStacked, metOf}
+use Rattle.machine.specs.State.{withF, withAAndF, withSp, withPc, withIme, withMode, registerOf, withRegister, hlOf, withHl, pairOf, withPair, stackedOf, withStacked, metOf}
 use Rattle.machine.specs.Modes.{isOff, armedOf}
 use Rattle.machine.specs.Stack.{pushedOf, returnedTo, calledOf}
 use Rattle.machine.specs.Operands.{valueOf, heldOf, placedOf, updatedOf, pointedOf, movedOf}
@@ -43,17 +43,17 @@ doing w = storing (done (w .out)) (w .stores)
 
 -- A and F from a result; HL, or SP, and F from a result
 unfoldable pub resultOf : Byte → Cpu → Cpu
-resultOf r s = withAf (r .value) (r .flags) s
+resultOf r s = withAAndF (r .value) (r .flags) s
 
 unfoldable pub addedToHlOf : Pair → Cpu → Cpu
 addedToHlOf rp s =
-    setHl (addedHlOf (hlOf s) (pairOf rp s) (s .f) .value) (withF (addedHlOf (hlOf s) (pairOf rp s) (s .f) .flags) s)
+    withHl (addedHlOf (hlOf s) (pairOf rp s) (s .f) .value) (withF (addedHlOf (hlOf s) (pairOf rp s) (s .f) .flags) s)
 
 unfoldable pub addedToSpOf : ℕ → Cpu → Cpu
 addedToSpOf e s = withSp (addedSpOf (s .sp) e .value) (withF (addedSpOf (s .sp) e .flags) s)
 
 unfoldable pub hlFromSpOf : ℕ → Cpu → Cpu
-hlFromSpOf e s = setHl (addedSpOf (s .sp) e .value) (withF (addedSpOf (s .sp) e .flags) s)
+hlFromSpOf e s = withHl (addedSpOf (s .sp) e .value) (withF (addedSpOf (s .sp) e .flags) s)
 
 -- conditional jumps, calls and returns: a taken one costs k cycles more
 unfoldable pub jumpedIf : ℕ → Bool → ℕ → Cpu → Done
@@ -73,7 +73,7 @@ unfoldable pub storedTo : ℕ → Cpu → Storing Cpu
 storedTo at s = storing s (store at (s .a) ∷ [])
 
 unfoldable pub loadedFrom : ℕ → Cpu → Memory → Cpu
-loadedFrom at s m = withAf (byteAt m at) (s .f) s
+loadedFrom at s m = withAAndF (byteAt m at) (s .f) s
 
 -- [HLI], [HLD] and the others: A stored, then HL moved
 unfoldable pub storedAtOf : Pointer → Cpu → Storing Cpu
@@ -85,7 +85,7 @@ highAddress n = 0xFF00 + n
 
 -- the eight bits of A turned round: Z and C stay, N 1, H 1
 unfoldable pub complementedOf : Cpu → Cpu
-complementedOf s = withAf (255 - s .a) (flagsOf (zOf (s .f)) true true (cOf (s .f))) s
+complementedOf s = withAAndF (255 - s .a) (flagsOf (zOf (s .f)) true true (cOf (s .f))) s
 
 -- SCF and CCF: Z stays, N 0, H 0, and C as given
 unfoldable pub withCarryOf : Bool → Cpu → Cpu
@@ -152,5 +152,5 @@ execOf Undefined s m = plainly s
 
 -- opens what the instructions do in a proof
 unfoldable pub acts : Unit {0}
-unfolding regOf withReg hlOf setHl pairOf withPair stackedOf withStacked metOf wordAt wordStores pushedOf returnedTo calledOf operandOf valueOf heldOf placedOf updatedOf pointedOf movedOf resultOf addedToHlOf addedToSpOf hlFromSpOf jumpedIf calledIf returnedIf storedTo loadedFrom storedAtOf highAddress complementedOf withCarryOf armedOf isOff haltMode haltedOf execOf
+unfolding registerOf withRegister hlOf withHl pairOf withPair stackedOf withStacked metOf wordAt wordStores pushedOf returnedTo calledOf operandOf valueOf heldOf placedOf updatedOf pointedOf movedOf resultOf addedToHlOf addedToSpOf hlFromSpOf jumpedIf calledIf returnedIf storedTo loadedFrom storedAtOf highAddress complementedOf withCarryOf armedOf isOff haltMode haltedOf execOf
 acts = tt

@@ -15,12 +15,12 @@ use Rattle.insn.specs.declared.Pointer.{Pointer}
 use Rattle.insn.specs.declared.Pointer.the-variants as pointer
 use Rattle.machine.specs.Memory.{Memory, byteAt, store}
 use Rattle.machine.specs.Answers.{Storing, storing, storeless}
-use Rattle.machine.specs.State.{regOf, withReg, withF, hlOf, setHl}
+use Rattle.machine.specs.State.{registerOf, withRegister, withF, hlOf, withHl}
 use Rattle.machine.specs.declared.Cpu.{Cpu}
 
 -- the value of an operand
 unfoldable pub valueOf : Operand → Cpu → Memory → ℕ
-valueOf (Reg r) s m = regOf r s
+valueOf (Reg r) s m = registerOf r s
 valueOf AtHl s m = byteAt m (hlOf s)
 valueOf (Const v) s m = v
 
@@ -30,14 +30,14 @@ heldOf p s m = valueOf (operandOf p) s m
 
 -- a byte put into a place
 unfoldable pub placedOf : Place → ℕ → Cpu → Storing Cpu
-placedOf place.B v s = storeless (withReg reg.B v s)
-placedOf place.C v s = storeless (withReg reg.C v s)
-placedOf place.D v s = storeless (withReg reg.D v s)
-placedOf place.E v s = storeless (withReg reg.E v s)
-placedOf place.H v s = storeless (withReg reg.H v s)
-placedOf place.L v s = storeless (withReg reg.L v s)
+placedOf place.B v s = storeless (withRegister reg.B v s)
+placedOf place.C v s = storeless (withRegister reg.C v s)
+placedOf place.D v s = storeless (withRegister reg.D v s)
+placedOf place.E v s = storeless (withRegister reg.E v s)
+placedOf place.H v s = storeless (withRegister reg.H v s)
+placedOf place.L v s = storeless (withRegister reg.L v s)
 placedOf place.AtHl v s = storing s (store (hlOf s) v ∷ [])
-placedOf place.A v s = storeless (withReg reg.A v s)
+placedOf place.A v s = storeless (withRegister reg.A v s)
 
 -- a result put back into its place, with its F
 unfoldable pub updatedOf : Place → Byte → Cpu → Storing Cpu
@@ -53,5 +53,5 @@ pointedOf pointer.Hld s = hlOf s
 unfoldable pub movedOf : Pointer → Cpu → Cpu
 movedOf pointer.Bc s = s
 movedOf pointer.De s = s
-movedOf pointer.Hli s = setHl (further 1 (hlOf s)) s
-movedOf pointer.Hld s = setHl (back 1 (hlOf s)) s
+movedOf pointer.Hli s = withHl (further 1 (hlOf s)) s
+movedOf pointer.Hld s = withHl (back 1 (hlOf s)) s

@@ -25,17 +25,17 @@ cpuOf a f b c d e h l sp pc ime mode =
 abbrev pub withF : ℕ → Cpu → Cpu
 withF f s = cpuOf (s .a) f (s .b) (s .c) (s .d) (s .e) (s .h) (s .l) (s .sp) (s .pc) (s .ime) (s .mode)
 
-abbrev pub withAf : ℕ → ℕ → Cpu → Cpu
-withAf a f s = cpuOf a f (s .b) (s .c) (s .d) (s .e) (s .h) (s .l) (s .sp) (s .pc) (s .ime) (s .mode)
+abbrev pub withAAndF : ℕ → ℕ → Cpu → Cpu
+withAAndF a f s = cpuOf a f (s .b) (s .c) (s .d) (s .e) (s .h) (s .l) (s .sp) (s .pc) (s .ime) (s .mode)
 
-abbrev pub withBc : ℕ → ℕ → Cpu → Cpu
-withBc b c s = cpuOf (s .a) (s .f) b c (s .d) (s .e) (s .h) (s .l) (s .sp) (s .pc) (s .ime) (s .mode)
+abbrev pub withBAndC : ℕ → ℕ → Cpu → Cpu
+withBAndC b c s = cpuOf (s .a) (s .f) b c (s .d) (s .e) (s .h) (s .l) (s .sp) (s .pc) (s .ime) (s .mode)
 
-abbrev pub withDe : ℕ → ℕ → Cpu → Cpu
-withDe d e s = cpuOf (s .a) (s .f) (s .b) (s .c) d e (s .h) (s .l) (s .sp) (s .pc) (s .ime) (s .mode)
+abbrev pub withDAndE : ℕ → ℕ → Cpu → Cpu
+withDAndE d e s = cpuOf (s .a) (s .f) (s .b) (s .c) d e (s .h) (s .l) (s .sp) (s .pc) (s .ime) (s .mode)
 
-abbrev pub withHl : ℕ → ℕ → Cpu → Cpu
-withHl h l s = cpuOf (s .a) (s .f) (s .b) (s .c) (s .d) (s .e) h l (s .sp) (s .pc) (s .ime) (s .mode)
+abbrev pub withHAndL : ℕ → ℕ → Cpu → Cpu
+withHAndL h l s = cpuOf (s .a) (s .f) (s .b) (s .c) (s .d) (s .e) h l (s .sp) (s .pc) (s .ime) (s .mode)
 
 abbrev pub withSp : ℕ → Cpu → Cpu
 withSp sp s = cpuOf (s .a) (s .f) (s .b) (s .c) (s .d) (s .e) (s .h) (s .l) sp (s .pc) (s .ime) (s .mode)
@@ -50,30 +50,30 @@ abbrev pub withMode : Mode → Cpu → Cpu
 withMode mode s = cpuOf (s .a) (s .f) (s .b) (s .c) (s .d) (s .e) (s .h) (s .l) (s .sp) (s .pc) (s .ime) mode
 
 -- a register, and the state with another byte in it
-unfoldable pub regOf : Register → Cpu → ℕ
-regOf B s = s .b
-regOf C s = s .c
-regOf D s = s .d
-regOf E s = s .e
-regOf H s = s .h
-regOf L s = s .l
-regOf A s = s .a
+unfoldable pub registerOf : Register → Cpu → ℕ
+registerOf B s = s .b
+registerOf C s = s .c
+registerOf D s = s .d
+registerOf E s = s .e
+registerOf H s = s .h
+registerOf L s = s .l
+registerOf A s = s .a
 
-unfoldable pub withReg : Register → ℕ → Cpu → Cpu
-withReg B v s = withBc v (s .c) s
-withReg C v s = withBc (s .b) v s
-withReg D v s = withDe v (s .e) s
-withReg E v s = withDe (s .d) v s
-withReg H v s = withHl v (s .l) s
-withReg L v s = withHl (s .h) v s
-withReg A v s = withAf v (s .f) s
+unfoldable pub withRegister : Register → ℕ → Cpu → Cpu
+withRegister B v s = withBAndC v (s .c) s
+withRegister C v s = withBAndC (s .b) v s
+withRegister D v s = withDAndE v (s .e) s
+withRegister E v s = withDAndE (s .d) v s
+withRegister H v s = withHAndL v (s .l) s
+withRegister L v s = withHAndL (s .h) v s
+withRegister A v s = withAAndF v (s .f) s
 
 -- HL as a word, and the state with another word in it
 unfoldable pub hlOf : Cpu → ℕ
 hlOf s = wordOf (s .h) (s .l)
 
-unfoldable pub setHl : ℕ → Cpu → Cpu
-setHl w s = withHl (highOf w) (lowOf w) s
+unfoldable pub withHl : ℕ → Cpu → Cpu
+withHl w s = withHAndL (highOf w) (lowOf w) s
 
 -- BC DE HL SP
 unfoldable pub pairOf : Pair → Cpu → ℕ
@@ -83,9 +83,9 @@ pairOf pair.Hl s = hlOf s
 pairOf pair.Sp s = s .sp
 
 unfoldable pub withPair : Pair → ℕ → Cpu → Cpu
-withPair pair.Bc w s = withBc (highOf w) (lowOf w) s
-withPair pair.De w s = withDe (highOf w) (lowOf w) s
-withPair pair.Hl w s = setHl w s
+withPair pair.Bc w s = withBAndC (highOf w) (lowOf w) s
+withPair pair.De w s = withDAndE (highOf w) (lowOf w) s
+withPair pair.Hl w s = withHl w s
 withPair pair.Sp w s = withSp w s
 
 -- BC DE HL AF, as PUSH reads them
@@ -97,10 +97,10 @@ stackedOf stacked.Af s = wordOf (s .a) (s .f)
 
 -- and as POP sets them: POP AF drops the low four bits
 unfoldable pub withStacked : Stacked → ℕ → Cpu → Cpu
-withStacked stacked.Bc w s = withBc (highOf w) (lowOf w) s
-withStacked stacked.De w s = withDe (highOf w) (lowOf w) s
-withStacked stacked.Hl w s = setHl w s
-withStacked stacked.Af w s = withAf (highOf w) (lowOf w / 16 * 16) s
+withStacked stacked.Bc w s = withBAndC (highOf w) (lowOf w) s
+withStacked stacked.De w s = withDAndE (highOf w) (lowOf w) s
+withStacked stacked.Hl w s = withHl w s
+withStacked stacked.Af w s = withAAndF (highOf w) (lowOf w / 16 * 16) s
 
 -- the condition of a jump holds: NZ Z NC C
 unfoldable pub metOf : Cond → ℕ → Bool

@@ -83,14 +83,14 @@ endOf k start w =
       stores = w .stores;
     }
 
-unfoldable pub insnAct : Cpu → Memory → Act
-insnAct s m = endOf (shapeOf (nextInsn s m) .cycles) (s .ime) (execOf (nextInsn s m) (readyOf (nextAfter s m) s) m)
+unfoldable pub instructionAct : Cpu → Memory → Act
+instructionAct s m = endOf (shapeOf (nextInsn s m) .cycles) (s .ime) (execOf (nextInsn s m) (readyOf (nextAfter s m) s) m)
 
 -- the rules: a dispatch of the lowest request in 5 cycles; else 1 cycle in which nothing changes; else the instruction
 unfoldable pub ruleBy : Bool → Bool → Cpu → Memory → Act
 ruleBy true idle s m = act 5 (dispatchOf (lowestOf (pendingOf m)) s m)
 ruleBy false true s m = act 1 (storeless s)
-ruleBy false false s m = insnAct s m
+ruleBy false false s m = instructionAct s m
 
 unfoldable pub ruleOf : Cpu → Memory → Act
 ruleOf s m = ruleBy (dispatches s m) (idles s m) s m
@@ -103,8 +103,8 @@ inputRefusals s m =
     ∷ []
 
 -- of an instruction
-abbrev pub insnRefusals : Cpu → Memory → List Refusal
-insnRefusals s m = 4 when isUndefined (nextInsn s m) ∷ []
+abbrev pub instructionRefusals : Cpu → Memory → List Refusal
+instructionRefusals s m = 4 when isUndefined (nextInsn s m) ∷ []
 
 -- of a step that is due
 unfoldable pub dueRefusals : Cpu → Memory → List Refusal
@@ -117,6 +117,13 @@ dueRefusals s m =
 abbrev pub stepUnless : List Refusal → Act → Cpu → Memory → With Stepped
 stepUnless rs a s m = unlessRefused (codeOf rs) (λ _. accepting a m) (λ n. refusing n s m)
 
+-- rule 3 alone, and a step that is due, behind the refusals of its input
+abbrev pub instructionStep : Cpu → Memory → With Stepped
+instructionStep s m = stepUnless (instructionRefusals s m) (instructionAct s m) s m
+
+abbrev pub dueStep : Cpu → Memory → With Stepped
+dueStep s m = stepUnless (dueRefusals s m) (ruleOf s m) s m
+
 -- order: 1, 2, 3, 4
 unfoldable pub stepRefusals : Cpu → Memory → List Refusal
 stepRefusals s m = inputRefusals s m ++ dueRefusals s m
@@ -126,5 +133,5 @@ stepOf s m = stepUnless (stepRefusals s m) (ruleOf s m) s m
 
 -- opens the parts of a step in a proof
 unfoldable pub flow : Unit {0}
-unfolding isHalted isStopped settledIme dispatches idles pastFirst nextRest nextInsn nextAfter readyOf endOf insnAct ruleBy ruleOf inputRefusals dueRefusals stepRefusals stepOf
+unfolding isHalted isStopped settledIme dispatches idles pastFirst nextRest nextInsn nextAfter readyOf endOf instructionAct ruleBy ruleOf inputRefusals dueRefusals stepRefusals stepOf
 flow = tt

@@ -7,7 +7,6 @@ use crate::modes;
 use arith::bytes;
 ghost use mathlib.Core.Path.{_≡_};
 ghost use Prim.Native.Nat.{_≤_};
-ghost use lib.ListN.{length};
 ghost use Rattle.machine.specs.Answers.{Gives, making};
 ghost use Rattle.machine.specs.Interrupts.{lowestOf, dispatchDueOf, vectoredOf, dispatchOf};
 
@@ -49,7 +48,6 @@ impl Cpu {
 
     // Bit k of IF is cleared before PC is pushed.
     pub(crate) fn dispatch(self, k: u8, mem: &mut [u8]) -> Cpu
-        requires { ⌜ length (now mem) ≡ 65536 ⌝ }
         requires { ⌜ k ≤ 4 ⌝ }
         ensures { λ r. ⌜ Gives (making (dispatchOf k self (now (mem .entry))) (now (mem .entry))) r (now (mem .exit)) ⌝ }
     {

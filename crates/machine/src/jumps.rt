@@ -1,30 +1,30 @@
 // Jumps, calls and returns, with and without a condition.
 use crate::Cpu;
 use crate::Done;
-use crate::memory;
 use arith::words;
 use insn::Cond;
 ghost use mathlib.Core.Path.{_≡_};
-ghost use lib.ListN.{length};
 ghost use Rattle.arith.specs.Words.{offsetOf};
 ghost use Rattle.machine.specs.Answers.{Gives, making};
 ghost use Rattle.machine.specs.Execute.{jumpedIf, calledIf, returnedIf};
 ghost use Rattle.machine.specs.Memory.{wordAt};
-ghost use Rattle.machine.specs.Stack.{returnedTo};
 ghost use Rattle.machine.specs.State.{withPc, metOf, hlOf};
 
 impl Cpu {
     // The address after, moved by a signed byte.
-    pub(crate) fn jump_by(self, e: u8) -> Cpu
+    pub(crate) fn jump_by(mut self, e: u8) -> Cpu
         ensures { λ r. ⌜ r ≡ withPc (offsetOf e (self .pc)) self ⌝ }
     {
-        self.with_pc(words::offset(e, self.pc))
+        self.pc = words::offset(e, self.pc);
+        Cpu { ..self }
     }
 
-    pub(crate) fn jump_hl(self) -> Cpu
+    pub(crate) fn jump_hl(mut self) -> Cpu
         ensures { λ r. ⌜ r ≡ withPc (hlOf self) self ⌝ }
     {
-        self.with_pc(self.hl())
+        let to = self.hl();
+        self.pc = to;
+        Cpu { ..self }
     }
 
     // A taken one costs 1 more.
@@ -52,7 +52,6 @@ impl Cpu {
 
     // A taken one costs 3 more.
     pub(crate) fn call_if(self, cc: Cond, to: u16, mem: &mut [u8]) -> Done
-        requires { ⌜ length (now mem) ≡ 65536 ⌝ }
         ensures { λ r. ⌜ Gives (making (calledIf 3 (metOf cc (self .f)) to self) (now (mem .entry))) r (now (mem .exit)) ⌝ }
     {
         if self.met(cc) {
@@ -68,16 +67,8 @@ impl Cpu {
         }
     }
 
-    pub(crate) fn ret(self, mem: &[u8]) -> Cpu
-        requires { ⌜ length (now mem) ≡ 65536 ⌝ }
-        ensures { λ r. ⌜ r ≡ returnedTo (wordAt (now (mem .entry)) (self .sp)) self ⌝ }
-    {
-        self.return_to(memory::read_word(mem, self.sp))
-    }
-
     // A taken one costs 3 more.
     pub(crate) fn ret_if(self, cc: Cond, mem: &[u8]) -> Done
-        requires { ⌜ length (now mem) ≡ 65536 ⌝ }
         ensures { λ r. ⌜ r ≡ returnedIf 3 (metOf cc (self .f)) (wordAt (now (mem .entry)) (self .sp)) self ⌝ }
     {
         if self.met(cc) {

@@ -13,6 +13,12 @@ mod stack;
 mod state;
 mod step;
 
+// The memory has exactly so many bytes.
+pub const MEMORY_SIZE: usize = 65536;
+
+// A budget is at most so many cycles.
+pub const LARGEST_BUDGET: u32 = 1048576;
+
 // The interrupt switch: Off 0, Arming 1, On 2.
 pub enum Ime {
     Off,

@@ -11,7 +11,6 @@ use insn::Operand;
 use insn::Pair;
 use insn::Place;
 ghost use mathlib.Core.Path.{_≡_};
-ghost use lib.ListN.{length};
 ghost use mathlib.Core.Bool.{Bool, true, not};
 ghost use Rattle.arith.specs.Bytes.{aluOf, increasedOf, decreasedOf, resetOf, setOf, testedOf};
 ghost use Rattle.arith.specs.Decimal.{decimalOf};
@@ -25,14 +24,12 @@ ghost use Rattle.machine.specs.State.{withF, pairOf, withPair};
 
 impl Cpu {
     pub(crate) fn math(self, op: Alu, o: Operand, mem: &[u8]) -> Cpu
-        requires { ⌜ length (now mem) ≡ 65536 ⌝ }
         ensures { λ r. ⌜ r ≡ resultOf (aluOf op (self .a) (valueOf o self (now (mem .entry))) (self .f)) self ⌝ }
     {
         self.with_result(bytes::operate(op, self.a, self.value(o, mem), self.f))
     }
 
     pub(crate) fn increase(self, p: Place, mem: &mut [u8]) -> Cpu
-        requires { ⌜ length (now mem) ≡ 65536 ⌝ }
         ensures { λ r. ⌜ Gives (making (updatedOf p (increasedOf (heldOf p self (now (mem .entry))) (self .f)) self) (now (mem .entry))) r (now (mem .exit)) ⌝ }
     {
         let v = self.held(p, &*mem);
@@ -40,7 +37,6 @@ impl Cpu {
     }
 
     pub(crate) fn decrease(self, p: Place, mem: &mut [u8]) -> Cpu
-        requires { ⌜ length (now mem) ≡ 65536 ⌝ }
         ensures { λ r. ⌜ Gives (making (updatedOf p (decreasedOf (heldOf p self (now (mem .entry))) (self .f)) self) (now (mem .entry))) r (now (mem .exit)) ⌝ }
     {
         let v = self.held(p, &*mem);
@@ -48,7 +44,6 @@ impl Cpu {
     }
 
     pub(crate) fn rotate(self, op: Rot, p: Place, mem: &mut [u8]) -> Cpu
-        requires { ⌜ length (now mem) ≡ 65536 ⌝ }
         ensures { λ r. ⌜ Gives (making (updatedOf p (rotationOf op (heldOf p self (now (mem .entry))) (cOf (self .f))) self) (now (mem .entry))) r (now (mem .exit)) ⌝ }
     {
         let v = self.held(p, &*mem);
@@ -56,7 +51,6 @@ impl Cpu {
     }
 
     pub(crate) fn reset(self, k: u8, p: Place, mem: &mut [u8]) -> Cpu
-        requires { ⌜ length (now mem) ≡ 65536 ⌝ }
         ensures { λ r. ⌜ Gives (making (placedOf p (resetOf k (heldOf p self (now (mem .entry)))) self) (now (mem .entry))) r (now (mem .exit)) ⌝ }
     {
         let v = self.held(p, &*mem);
@@ -64,18 +58,17 @@ impl Cpu {
     }
 
     pub(crate) fn set(self, k: u8, p: Place, mem: &mut [u8]) -> Cpu
-        requires { ⌜ length (now mem) ≡ 65536 ⌝ }
         ensures { λ r. ⌜ Gives (making (placedOf p (setOf k (heldOf p self (now (mem .entry)))) self) (now (mem .entry))) r (now (mem .exit)) ⌝ }
     {
         let v = self.held(p, &*mem);
         self.place(p, bytes::set(k, v), mem)
     }
 
-    pub(crate) fn test(self, k: u8, p: Place, mem: &[u8]) -> Cpu
-        requires { ⌜ length (now mem) ≡ 65536 ⌝ }
+    pub(crate) fn test(mut self, k: u8, p: Place, mem: &[u8]) -> Cpu
         ensures { λ r. ⌜ r ≡ withF (testedOf k (heldOf p self (now (mem .entry))) (self .f)) self ⌝ }
     {
-        self.with_f(bytes::test(k, self.held(p, mem), self.f))
+        self.f = bytes::test(k, self.held(p, mem), self.f);
+        Cpu { ..self }
     }
 
     pub(crate) fn rotate_a(self, op: Rot) -> Cpu
@@ -112,29 +105,34 @@ impl Cpu {
         Cpu { ..self }
     }
 
-    pub(crate) fn add_hl(self, p: Pair) -> Cpu
+    pub(crate) fn add_hl(mut self, p: Pair) -> Cpu
         ensures { λ r. ⌜ r ≡ addedToHlOf p self ⌝ }
     {
         let w = words::add_hl(self.hl(), self.pair(p), self.f);
-        self.with_f(w.flags).with_hl(w.value)
+        self.f = w.flags;
+        self.h = words::high(w.value);
+        self.l = words::low(w.value);
+        Cpu { ..self }
     }
 
-    pub(crate) fn add_sp(self, e: u8) -> Cpu
+    pub(crate) fn add_sp(mut self, e: u8) -> Cpu
         ensures { λ r. ⌜ r ≡ addedToSpOf e self ⌝ }
     {
         let w = words::add_sp(self.sp, e);
-        self.with_f(w.flags).with_sp(w.value)
+        self.f = w.flags;
+        self.sp = w.value;
+        Cpu { ..self }
     }
 
     pub(crate) fn increase_pair(self, p: Pair) -> Cpu
         ensures { λ r. ⌜ r ≡ withPair p (further 1 (pairOf p self)) self ⌝ }
     {
-        self.with_pair(p, words::on(1, self.pair(p)))
+        self.with_pair(p, words::further(1, self.pair(p)))
     }
 
     pub(crate) fn decrease_pair(self, p: Pair) -> Cpu
         ensures { λ r. ⌜ r ≡ withPair p (back 1 (pairOf p self)) self ⌝ }
     {
-        self.with_pair(p, words::back_by(1, self.pair(p)))
+        self.with_pair(p, words::back(1, self.pair(p)))
     }
 }

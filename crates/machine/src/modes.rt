@@ -4,7 +4,6 @@ use crate::Ime;
 use crate::Mode;
 use crate::memory;
 ghost use mathlib.Core.Path.{_≡_};
-ghost use lib.ListN.{length};
 ghost use Rattle.machine.specs.Execute.{haltMode, haltedOf};
 ghost use Rattle.machine.specs.Modes.{isOff, isOn, isHalted, isStopped, armedOf, settledIme};
 ghost use Rattle.machine.specs.State.{withIme};
@@ -89,7 +88,6 @@ impl Cpu {
 
     // With IME Off and a request pending the byte after HALT is read twice.
     pub(crate) fn halt(self, mem: &[u8]) -> Cpu
-        requires { ⌜ length (now mem) ≡ 65536 ⌝ }
         ensures { λ r. ⌜ r ≡ haltedOf self (now (mem .entry)) ⌝ }
     {
         let ime = self.ime;

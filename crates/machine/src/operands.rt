@@ -8,7 +8,6 @@ use insn::Place;
 use insn::Pointer;
 use insn::Register;
 ghost use mathlib.Core.Path.{_≡_};
-ghost use lib.ListN.{length};
 ghost use Rattle.insn.specs.Grid.{operandOf};
 ghost use Rattle.machine.specs.Answers.{Gives, making};
 ghost use Rattle.machine.specs.Operands.{valueOf, heldOf, placedOf, updatedOf, pointedOf, movedOf};
@@ -31,7 +30,6 @@ fn operand(p: Place) -> Operand
 
 impl Cpu {
     pub(crate) fn value(self, o: Operand, mem: &[u8]) -> u8
-        requires { ⌜ length (now mem) ≡ 65536 ⌝ }
         ensures { λ r. ⌜ r ≡ valueOf o self (now (mem .entry)) ⌝ }
     {
         match o {
@@ -43,7 +41,6 @@ impl Cpu {
 
     // The byte in a place.
     pub(crate) fn held(self, p: Place, mem: &[u8]) -> u8
-        requires { ⌜ length (now mem) ≡ 65536 ⌝ }
         ensures { λ r. ⌜ r ≡ heldOf p self (now (mem .entry)) ⌝ }
     {
         self.value(operand(p), mem)
@@ -51,7 +48,6 @@ impl Cpu {
 
     // A byte put into a place.
     pub(crate) fn place(self, p: Place, v: u8, mem: &mut [u8]) -> Cpu
-        requires { ⌜ length (now mem) ≡ 65536 ⌝ }
         ensures { λ r. ⌜ Gives (making (placedOf p v self) (now (mem .entry))) r (now (mem .exit)) ⌝ }
     {
         match p {
@@ -71,7 +67,6 @@ impl Cpu {
 
     // A result put back into its place, with its F.
     pub(crate) fn update(self, p: Place, r: Byte, mem: &mut [u8]) -> Cpu
-        requires { ⌜ length (now mem) ≡ 65536 ⌝ }
         ensures { λ n. ⌜ Gives (making (updatedOf p r self) (now (mem .entry))) n (now (mem .exit)) ⌝ }
     {
         self.with_f(r.flags).place(p, r.value, mem)
@@ -96,8 +91,8 @@ impl Cpu {
         match p {
             Pointer::Bc => self,
             Pointer::De => self,
-            Pointer::Hli => self.with_hl(words::on(1, self.hl())),
-            Pointer::Hld => self.with_hl(words::back_by(1, self.hl())),
+            Pointer::Hli => self.with_hl(words::further(1, self.hl())),
+            Pointer::Hld => self.with_hl(words::back(1, self.hl())),
         }
     }
 }

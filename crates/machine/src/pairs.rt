@@ -4,7 +4,7 @@ use arith::words;
 use insn::Pair;
 use insn::Stacked;
 ghost use mathlib.Core.Path.{_≡_};
-ghost use Rattle.machine.specs.State.{hlOf, setHl, pairOf, withPair, stackedOf, withStacked};
+ghost use Rattle.machine.specs.State.{hlOf, withHl, pairOf, withPair, stackedOf, withStacked};
 
 impl Cpu {
     pub(crate) fn hl(self) -> u16
@@ -14,7 +14,7 @@ impl Cpu {
     }
 
     pub(crate) fn with_hl(mut self, w: u16) -> Cpu
-        ensures { λ r. ⌜ r ≡ setHl w self ⌝ }
+        ensures { λ r. ⌜ r ≡ withHl w self ⌝ }
     {
         self.h = words::high(w);
         self.l = words::low(w);
@@ -32,23 +32,27 @@ impl Cpu {
         }
     }
 
-    pub(crate) fn with_pair(self, p: Pair, w: u16) -> Cpu
+    pub(crate) fn with_pair(mut self, p: Pair, w: u16) -> Cpu
         ensures { λ r. ⌜ r ≡ withPair p w self ⌝ }
     {
         match p {
-            Pair::Bc => Cpu {
-                b: words::high(w),
-                c: words::low(w),
-                ..self
-            },
-            Pair::De => Cpu {
-                d: words::high(w),
-                e: words::low(w),
-                ..self
-            },
-            Pair::Hl => self.with_hl(w),
-            Pair::Sp => self.with_sp(w),
+            Pair::Bc => {
+                self.b = words::high(w);
+                self.c = words::low(w);
+            }
+            Pair::De => {
+                self.d = words::high(w);
+                self.e = words::low(w);
+            }
+            Pair::Hl => {
+                self.h = words::high(w);
+                self.l = words::low(w);
+            }
+            Pair::Sp => {
+                self.sp = w;
+            }
         }
+        Cpu { ..self }
     }
 
     pub(crate) fn stacked(self, p: Stacked) -> u16
@@ -63,26 +67,27 @@ impl Cpu {
     }
 
     // POP AF drops the low four bits.
-    pub(crate) fn with_stacked(self, p: Stacked, w: u16) -> Cpu
+    pub(crate) fn with_stacked(mut self, p: Stacked, w: u16) -> Cpu
         ensures { λ r. ⌜ r ≡ withStacked p w self ⌝ }
     {
         match p {
-            Stacked::Bc => Cpu {
-                b: words::high(w),
-                c: words::low(w),
-                ..self
-            },
-            Stacked::De => Cpu {
-                d: words::high(w),
-                e: words::low(w),
-                ..self
-            },
-            Stacked::Hl => self.with_hl(w),
-            Stacked::Af => Cpu {
-                a: words::high(w),
-                f: words::low(w) / 16 * 16,
-                ..self
-            },
+            Stacked::Bc => {
+                self.b = words::high(w);
+                self.c = words::low(w);
+            }
+            Stacked::De => {
+                self.d = words::high(w);
+                self.e = words::low(w);
+            }
+            Stacked::Hl => {
+                self.h = words::high(w);
+                self.l = words::low(w);
+            }
+            Stacked::Af => {
+                self.a = words::high(w);
+                self.f = words::low(w) / 16 * 16;
+            }
         }
+        Cpu { ..self }
     }
 }

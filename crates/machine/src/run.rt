@@ -1,27 +1,45 @@
 // The two public operations: one step, and a run of a budget. A step is the run of budget 1: each accepted step spends at least
 // one cycle, and a single place that steps is what the compiler makes fast.
 use crate::Cpu;
+use crate::LARGEST_BUDGET;
+use crate::MEMORY_SIZE;
 use crate::Ran;
 use crate::Stepped;
 ghost use mathlib.Core.Path.{_≡_};
-ghost use Prim.Native.Nat.{_%_, _≤_};
-ghost use lib.ListN.{length};
+ghost use Prim.Native.Nat.{_≤_};
 ghost use Rattle.machine.specs.Answers.{Gives};
 ghost use Rattle.machine.specs.Step.{stepOf};
-ghost use Rattle.machine.specs.Run.{runFrom, runOf};
+ghost use Rattle.machine.specs.Run.{largestBudget, runOf};
 
-// Steps while the cycles spent are below the budget.
-fn turns(start: Cpu, mem: &mut [u8], budget: u32) -> Ran
-    requires { ⌜ length (now mem) ≡ 65536 ⌝ }
-    requires { ⌜ start .f % 16 ≡ 0 ⌝ }
-    requires { ⌜ budget ≤ 1048576 ⌝ }
-    ensures { λ r. ⌜ Gives (runFrom budget budget 0 0 start (now (mem .entry))) r (now (mem .exit)) ⌝ }
+// A run that is refused before its first step.
+fn refused(code: u8, cpu: Cpu) -> Ran
+    ensures { λ r. ⌜ r ≡ record { code = code; spent = 0; steps = 0; cpu = cpu } ⌝ }
 {
+    Ran {
+        code,
+        spent: 0,
+        steps: 0,
+        cpu,
+    }
+}
+
+// Steps while the cycles spent are below the budget. The length is tested where the loop is, so that the compiler drops the tests of
+// every read and store in it.
+fn run_within(start: Cpu, mem: &mut [u8], budget: u32) -> Ran
+    requires { ⌜ budget ≤ largestBudget ⌝ }
+    ensures { λ r. ⌜ Gives (runOf budget start (now (mem .entry))) r (now (mem .exit)) ⌝ }
+{
+    if mem.len() != MEMORY_SIZE {
+        return refused(1, start);
+    }
+    if start.f % 16 != 0 {
+        return refused(2, start);
+    }
     let mut cpu = start;
     let mut spent: u32 = 0;
     let mut steps: u32 = 0;
     while spent < budget {
-        let next = cpu.step_once(mem);
+        let next = cpu.due_step(mem);
         let code = next.code;
         if code != 0 {
             return Ran {
@@ -48,21 +66,7 @@ fn turns(start: Cpu, mem: &mut [u8], budget: u32) -> Ran
 pub fn step(cpu: Cpu, mem: &mut [u8]) -> Stepped
     ensures { λ r. ⌜ Gives (stepOf cpu (now (mem .entry))) r (now (mem .exit)) ⌝ }
 {
-    if mem.len() != 65536 {
-        return Stepped {
-            code: 1,
-            cycles: 0,
-            cpu,
-        };
-    }
-    if cpu.f % 16 != 0 {
-        return Stepped {
-            code: 2,
-            cycles: 0,
-            cpu,
-        };
-    }
-    let r = turns(cpu, mem, 1);
+    let r = run_within(cpu, mem, 1);
     let after = r.cpu;
     Stepped {
         code: r.code,
@@ -76,29 +80,14 @@ pub fn step(cpu: Cpu, mem: &mut [u8]) -> Stepped
 pub fn run(cpu: Cpu, mem: &mut [u8], budget: u32) -> Ran
     ensures { λ r. ⌜ Gives (runOf budget cpu (now (mem .entry))) r (now (mem .exit)) ⌝ }
 {
-    if mem.len() != 65536 {
-        return Ran {
-            code: 1,
-            spent: 0,
-            steps: 0,
-            cpu,
-        };
+    if budget <= LARGEST_BUDGET {
+        return run_within(cpu, mem, budget);
+    }
+    if mem.len() != MEMORY_SIZE {
+        return refused(1, cpu);
     }
     if cpu.f % 16 != 0 {
-        return Ran {
-            code: 2,
-            spent: 0,
-            steps: 0,
-            cpu,
-        };
+        return refused(2, cpu);
     }
-    if 1048576 < budget {
-        return Ran {
-            code: 5,
-            spent: 0,
-            steps: 0,
-            cpu,
-        };
-    }
-    turns(cpu, mem, budget)
+    refused(5, cpu)
 }

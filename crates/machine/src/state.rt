@@ -8,7 +8,7 @@ use arith::flags;
 use insn::Cond;
 use insn::Register;
 ghost use mathlib.Core.Path.{_≡_};
-ghost use Rattle.machine.specs.State.{withF, withAf, withSp, withPc, withIme, withMode, regOf, withReg, metOf};
+ghost use Rattle.machine.specs.State.{withF, withAAndF, withSp, withPc, withIme, withMode, registerOf, withRegister, metOf};
 ghost use Rattle.machine.specs.Execute.{resultOf};
 
 impl Cpu {
@@ -33,6 +33,7 @@ impl Cpu {
         Cpu { ..self }
     }
 
+    // IME and the mode are enums, and no field of such a type can be stored to: these two write the state anew.
     pub(crate) fn with_ime(self, ime: Ime) -> Cpu
         ensures { λ r. ⌜ r ≡ withIme ime self ⌝ }
     {
@@ -55,7 +56,7 @@ impl Cpu {
     }
 
     pub(crate) fn register(self, r: Register) -> u8
-        ensures { λ v. ⌜ v ≡ regOf r self ⌝ }
+        ensures { λ v. ⌜ v ≡ registerOf r self ⌝ }
     {
         match r {
             Register::B => self.b,
@@ -68,18 +69,33 @@ impl Cpu {
         }
     }
 
-    pub(crate) fn with_register(self, r: Register, v: u8) -> Cpu
-        ensures { λ n. ⌜ n ≡ withReg r v self ⌝ }
+    pub(crate) fn with_register(mut self, r: Register, v: u8) -> Cpu
+        ensures { λ n. ⌜ n ≡ withRegister r v self ⌝ }
     {
         match r {
-            Register::B => Cpu { b: v, ..self },
-            Register::C => Cpu { c: v, ..self },
-            Register::D => Cpu { d: v, ..self },
-            Register::E => Cpu { e: v, ..self },
-            Register::H => Cpu { h: v, ..self },
-            Register::L => Cpu { l: v, ..self },
-            Register::A => Cpu { a: v, ..self },
+            Register::B => {
+                self.b = v;
+            }
+            Register::C => {
+                self.c = v;
+            }
+            Register::D => {
+                self.d = v;
+            }
+            Register::E => {
+                self.e = v;
+            }
+            Register::H => {
+                self.h = v;
+            }
+            Register::L => {
+                self.l = v;
+            }
+            Register::A => {
+                self.a = v;
+            }
         }
+        Cpu { ..self }
     }
 
     // The condition of a jump holds.

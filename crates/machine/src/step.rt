@@ -16,7 +16,7 @@ ghost use lib.ListN.{length};
 ghost use Rattle.machine.specs.Answers.{Gives};
 ghost use Rattle.machine.specs.Modes.{settledIme};
 ghost use Rattle.machine.specs.State.{withIme};
-ghost use Rattle.machine.specs.Step.{pastFirst, nextRest, readyOf, insnAct, ruleOf, insnRefusals, dueRefusals, stepUnless};
+ghost use Rattle.machine.specs.Step.{pastFirst, nextRest, readyOf, instructionStep, dueStep};
 ghost use Rattle.machine.specs.declared.Ime.the-variants.{Off};
 ghost use Rattle.machine.specs.declared.Mode.the-variants.{Running};
 
@@ -25,10 +25,10 @@ fn past_first(mode: Mode, pc: u16) -> u16
     ensures { λ r. ⌜ r ≡ pastFirst mode pc ⌝ }
 {
     match mode {
-        Mode::Running => words::on(1, pc),
+        Mode::Running => words::further(1, pc),
         Mode::Repeat => pc,
-        Mode::Halted => words::on(1, pc),
-        Mode::Stopped => words::on(1, pc),
+        Mode::Halted => words::further(1, pc),
+        Mode::Stopped => words::further(1, pc),
     }
 }
 
@@ -49,7 +49,7 @@ fn quiet(mode: Mode, ime: Ime) -> bool
 }
 
 // The end of an instruction that costs so many cycles where nothing is taken.
-fn end(cycles: u8, d: Done) -> Stepped
+fn accepted(cycles: u8, d: Done) -> Stepped
     requires { ⌜ cycles + d .extra ≤ 6 ⌝ }
     ensures { λ r. ⌜ r ≡ record { code = 0; cycles = cycles + d .extra; cpu = d .cpu } ⌝ }
 {
@@ -86,11 +86,10 @@ impl Cpu {
 
     // Rule 3: the instruction at PC, its other bytes from rest on, or the refusal of an undefined one. IME is what an instruction
     // that leaves it alone ends with: Arming has become On.
-    fn instruction(self, rest: u16, ime: Ime, mem: &mut [u8]) -> Stepped
-        requires { ⌜ length (now mem) ≡ 65536 ⌝ }
+    fn instruction_step(self, rest: u16, ime: Ime, mem: &mut [u8]) -> Stepped
         requires { ⌜ rest ≡ nextRest self ⌝ }
         requires { ⌜ ime ≡ settledIme (self .ime) (self .ime) ⌝ }
-        ensures { λ r. ⌜ Gives (stepUnless (insnRefusals self (now (mem .entry))) (insnAct self (now (mem .entry))) self (now (mem .entry))) r (now (mem .exit)) ⌝ }
+        ensures { λ r. ⌜ Gives (instructionStep self (now (mem .entry))) r (now (mem .exit)) ⌝ }
     {
         let op = memory::read(&*mem, self.pc);
         let n8 = memory::read(&*mem, rest);
@@ -101,20 +100,20 @@ impl Cpu {
             return self.refuse(4);
         }
         let i = d.insn;
-        end(
+        accepted(
             cycles,
-            self.ready(words::on(d.more, rest), ime).execute(i, mem),
+            self.ready(words::further(d.more, rest), ime)
+                .execute(i, mem),
         )
     }
 
     // The idle step, refusal 3, the dispatch or the instruction.
-    pub(crate) fn step_once(self, mem: &mut [u8]) -> Stepped
-        requires { ⌜ length (now mem) ≡ 65536 ⌝ }
-        ensures { λ r. ⌜ Gives (stepUnless (dueRefusals self (now (mem .entry))) (ruleOf self (now (mem .entry))) self (now (mem .entry))) r (now (mem .exit)) ⌝ }
+    pub(crate) fn due_step(self, mem: &mut [u8]) -> Stepped
+        ensures { λ r. ⌜ Gives (dueStep self (now (mem .entry))) r (now (mem .exit)) ⌝ }
     {
         let mode = self.mode;
         let mut ime = self.ime;
-        let mut rest = words::on(1, self.pc);
+        let mut rest = words::further(1, self.pc);
         if !quiet(mode, ime) {
             let p = memory::pending(&*mem);
             if modes::is_halted(mode) & (p == 0) {
@@ -137,6 +136,6 @@ impl Cpu {
             rest = past_first(mode, self.pc);
             ime = modes::settled(ime);
         }
-        self.instruction(rest, ime, mem)
+        self.instruction_step(rest, ime, mem)
     }
 }

@@ -21,7 +21,7 @@ use Rattle.machine.specs.Memory.{byteAt, stored, wordAt}
 use Rattle.machine.specs.Execute.{acts}
 use Rattle.machine.specs.Modes.{isOn}
 use Rattle.machine.specs.Interrupts.{dispatchDueOf}
-use Rattle.machine.specs.Step.{stepped, nextInsn, insnAct, stepUnless, flow}
+use Rattle.machine.specs.Step.{stepped, nextInsn, instructionAct, stepUnless, flow}
 use Rattle.machine.specs.declared.Ime.the-variants.{Off}
 use Rattle.machine.specs.declared.Mode.the-variants.{Running}
 use Rattle.machine.specs.declared.Cpu.{Cpu}
@@ -39,7 +39,7 @@ module _ {m : List ℕ} {a f b c d e h l sp pc : ℕ} (size : length m ≡ 65536
   -- neither refused nor interrupted: the instruction at PC is run
   insn : {j : ℕ} {s′ : Cpu} {m′ : List ℕ} →
       (let s = running a f b c d e h l sp pc in
-      stepUnless (4 when isUndefined (nextInsn s m) ∷ []) (insnAct s m) s m) ≡ stepped 0 j s′ m′ →
+      stepUnless (4 when isUndefined (nextInsn s m) ∷ []) (instructionAct s m) s m) ≡ stepped 0 j s′ m′ →
       Takes 1 j (running a f b c d e h l sp pc) m s′ m′
   unfolding order flow dispatchDueOf isOn
   insn e = one (rw (size, valid) e)

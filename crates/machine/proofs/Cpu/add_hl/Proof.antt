@@ -1,12 +1,13 @@
 -- `add_hl` meets its contract.
 use borrow.Author.Needs.{needs}
 use Rattle.machine.specs.Execute.{addedToHlOf}
+use Rattle.machine.specs.State.{withHl}
 use Rattle.machine.proofs.Cpu.add_hl.Statement.{statement}
 use Rattle.machine.proofs.Cpu.add_hl.Tie as tie
 
 returns : tie.Need-returns
-unfolding addedToHlOf
-returns c = simp (c .with-hl .ensures, c .before .with-f .ensures, c .before .before .add-hl .ensures, c .before .before .before .pair .ensures, c .before .before .before .before .hl .ensures)
+unfolding addedToHlOf withHl
+returns c = simp (c .low .ensures, c .before .high .ensures, c .before .before .add-hl .ensures, c .before .before .before .pair .ensures, c .before .before .before .before .hl .ensures)
 
 pub add-hl-spec : {M : Type 1} → statement M
 add-hl-spec = tie.close (tie.spec (search needs) (search needs) (search needs) (search needs) (search needs) returns)

@@ -6,7 +6,7 @@ use Rattle.machine.proofs.Cpu.add_sp.Tie as tie
 
 returns : tie.Need-returns
 unfolding addedToSpOf
-returns c = simp (c .with-sp .ensures, c .before .with-f .ensures, c .before .before .add-sp .ensures)
+returns c = simp (c .add-sp .ensures)
 
 pub add-sp-spec : {M : Type 1} → statement M
-add-sp-spec = tie.close (tie.spec (search needs) (search needs) (search needs) returns)
+add-sp-spec = tie.close (tie.spec (search needs) returns)

@@ -4,7 +4,7 @@ use Rattle.machine.proofs.Cpu.increase_pair.Statement.{statement}
 use Rattle.machine.proofs.Cpu.increase_pair.Tie as tie
 
 returns : tie.Need-returns
-returns c = simp (c .with-pair .ensures, c .before .on .ensures, c .before .before .pair .ensures)
+returns c = simp (c .with-pair .ensures, c .before .further .ensures, c .before .before .pair .ensures)
 
 pub increase-pair-spec : {M : Type 1} → statement M
 increase-pair-spec = tie.close (tie.spec (search needs) (search needs) (search needs) returns)

@@ -4,7 +4,7 @@ use Rattle.machine.proofs.Cpu.jump_by.Statement.{statement}
 use Rattle.machine.proofs.Cpu.jump_by.Tie as tie
 
 returns : tie.Need-returns
-returns c = simp (c .with-pc .ensures, c .before .offset .ensures)
+returns c = simp (c .offset .ensures)
 
 pub jump-by-spec : {M : Type 1} → statement M
-jump-by-spec = tie.close (tie.spec (search needs) (search needs) returns)
+jump-by-spec = tie.close (tie.spec (search needs) returns)

@@ -4,7 +4,7 @@ use Rattle.machine.proofs.Cpu.jump_hl.Statement.{statement}
 use Rattle.machine.proofs.Cpu.jump_hl.Tie as tie
 
 returns : tie.Need-returns
-returns c = simp (c .with-pc .ensures, c .before .hl .ensures)
+returns c = simp (c .hl .ensures)
 
 pub jump-hl-spec : {M : Type 1} → statement M
-jump-hl-spec = tie.close (tie.spec (search needs) (search needs) returns)
+jump-hl-spec = tie.close (tie.spec (search needs) returns)

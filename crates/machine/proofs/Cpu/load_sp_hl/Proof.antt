@@ -4,7 +4,7 @@ use Rattle.machine.proofs.Cpu.load_sp_hl.Statement.{statement}
 use Rattle.machine.proofs.Cpu.load_sp_hl.Tie as tie
 
 returns : tie.Need-returns
-returns c = simp (c .with-sp .ensures, c .before .hl .ensures)
+returns c = simp (c .hl .ensures)
 
 pub load-sp-hl-spec : {M : Type 1} → statement M
-load-sp-hl-spec = tie.close (tie.spec (search needs) (search needs) returns)
+load-sp-hl-spec = tie.close (tie.spec (search needs) returns)

@@ -11,5 +11,5 @@ moved-spec =
     (search needs) (search needs) (search needs) (search needs) (search needs) (search needs) (search needs) (search needs) (search needs) (search needs)
     (λ c. simp (c .enum-told .given .1))
     (λ c. simp (c .enum-told2 .given .1))
-    (λ c. simp (c .with-hl .ensures, c .before .on .ensures, c .before .before .hl .ensures, c .before .before .before .enum-told3 .given .1))
-    (λ c. simp (c .with-hl2 .ensures, c .before .back-by .ensures, c .before .before .hl2 .ensures, c .before .before .before .enum-told4 .given .1)))
+    (λ c. simp (c .with-hl .ensures, c .before .further .ensures, c .before .before .hl .ensures, c .before .before .before .enum-told3 .given .1))
+    (λ c. simp (c .with-hl2 .ensures, c .before .back .ensures, c .before .before .hl2 .ensures, c .before .before .before .enum-told4 .given .1)))

@@ -4,7 +4,7 @@ use Rattle.machine.proofs.Cpu.pop.Statement.{statement}
 use Rattle.machine.proofs.Cpu.pop.Tie as tie
 
 returns : tie.Need-returns
-returns c = simp (c .with-stacked .ensures, c .before .with-sp .ensures, c .before .before .on .ensures, c .before .before .before .read-word .ensures)
+returns c = simp (c .with-stacked .ensures, c .before .with-sp .ensures, c .before .before .further .ensures, c .before .before .before .read-word .ensures)
 
 pub pop-spec : {M : Type 1} → statement M
 pop-spec = tie.close (tie.spec (search needs) (search needs) (search needs) (search needs) returns)

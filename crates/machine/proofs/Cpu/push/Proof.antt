@@ -7,7 +7,16 @@ use Rattle.machine.proofs.Cpu.push.Tie as tie
 
 returns : tie.Need-returns
 unfolding pushedOf
-returns c = simp (c .with-sp .ensures, c .before .before .before .store2 .ensures, c .before .before .before .before .low .ensures, c .before .before .before .before .before .before .before .before .store .ensures, c .before .before .before .before .before .before .before .before .before .high .ensures, c .before .before .before .before .before .before .before .before .before .before .back-by2 .ensures, c .before .before .before .before .before .before .before .before .before .before .before .before .back-by .ensures) exactly
+returns c =
+    simp (
+      c .before .before .store2 .ensures,
+      c .before .before .before .low .ensures,
+      c .before .before .before .before .before .before .before .store .ensures,
+      c .before .before .before .before .before .before .before .before .high .ensures,
+      c .before .before .before .before .before .before .before .before .before .back2 .ensures,
+      c .before .before .before .before .before .before .before .before .before .before .before .back .ensures,
+    )
+    exactly
 
 pub push-spec : {M : Type 1} → statement M
-push-spec = tie.close (tie.spec (search needs) (search needs) (search needs) (search needs) (search needs) (search needs) (search needs) (search needs) returns)
+push-spec = tie.close (tie.spec (search needs) (search needs) (search needs) (search needs) (search needs) (search needs) (search needs) returns)

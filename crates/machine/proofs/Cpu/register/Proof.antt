@@ -1,11 +1,11 @@
 -- `register` meets its contract.
 use borrow.Author.Needs.{needs}
-use Rattle.machine.specs.State.{regOf}
+use Rattle.machine.specs.State.{registerOf}
 use Rattle.machine.proofs.Cpu.register.Statement.{statement}
 use Rattle.machine.proofs.Cpu.register.Tie as tie
 
 pub register-spec : {M : Type 1} → statement M
-unfolding regOf
+unfolding registerOf
 register-spec =
     tie.close (tie.spec
     (search needs) (search needs) (search needs) (search needs) (search needs) (search needs) (search needs)

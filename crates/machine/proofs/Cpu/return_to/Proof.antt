@@ -6,7 +6,7 @@ use Rattle.machine.proofs.Cpu.return_to.Tie as tie
 
 returns : tie.Need-returns
 unfolding returnedTo
-returns c = simp (c .on .ensures)
+returns c = simp (c .further .ensures)
 
 pub return-to-spec : {M : Type 1} → statement M
 return-to-spec = tie.close (tie.spec (search needs) returns)

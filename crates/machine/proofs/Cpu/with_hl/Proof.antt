@@ -1,11 +1,11 @@
 -- `with_hl` meets its contract.
 use borrow.Author.Needs.{needs}
-use Rattle.machine.specs.State.{setHl}
+use Rattle.machine.specs.State.{withHl}
 use Rattle.machine.proofs.Cpu.with_hl.Statement.{statement}
 use Rattle.machine.proofs.Cpu.with_hl.Tie as tie
 
 returns : tie.Need-returns
-unfolding setHl
+unfolding withHl
 returns c = simp (c .low .ensures, c .before .high .ensures)
 
 pub with-hl-spec : {M : Type 1} → statement M

@@ -1,11 +1,11 @@
 -- `with_register` meets its contract.
 use borrow.Author.Needs.{needs}
-use Rattle.machine.specs.State.{withReg}
+use Rattle.machine.specs.State.{withRegister}
 use Rattle.machine.proofs.Cpu.with_register.Statement.{statement}
 use Rattle.machine.proofs.Cpu.with_register.Tie as tie
 
 pub with-register-spec : {M : Type 1} → statement M
-unfolding withReg
+unfolding withRegister
 with-register-spec =
     tie.close (tie.spec
     (search needs) (search needs) (search needs) (search needs) (search needs) (search needs) (search needs)

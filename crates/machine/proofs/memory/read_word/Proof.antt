@@ -6,7 +6,7 @@ use Rattle.machine.proofs.memory.read_word.Tie as tie
 
 returns : tie.Need-returns
 unfolding wordAt
-returns c = simp (c .word .ensures, c .before .read2 .ensures, c .before .before .on .ensures, c .before .before .before .read .ensures)
+returns c = simp (c .word .ensures, c .before .read2 .ensures, c .before .before .further .ensures, c .before .before .before .read .ensures)
 
 pub read-word-spec : {M : Type 1} → statement M
 read-word-spec = tie.close (tie.spec (search needs) (search needs) (search needs) (search needs) returns)

@@ -9,7 +9,7 @@ unfolding pastFirst
 past-first-spec =
     tie.close (tie.spec
     (search needs) (search needs) (search needs) (search needs) (search needs) (search needs) (search needs)
-    (λ c. simp (c .on .ensures, c .before .enum-told .given .1))
+    (λ c. simp (c .further .ensures, c .before .enum-told .given .1))
     (λ c. simp (c .enum-told2 .given .1))
-    (λ c. simp (c .on2 .ensures, c .before .enum-told3 .given .1))
-    (λ c. simp (c .on3 .ensures, c .before .enum-told4 .given .1)))
+    (λ c. simp (c .further2 .ensures, c .before .enum-told3 .given .1))
+    (λ c. simp (c .further3 .ensures, c .before .enum-told4 .given .1)))

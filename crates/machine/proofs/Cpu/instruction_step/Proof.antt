@@ -11,8 +11,8 @@ use Rattle.machine.specs.declared.Done.{Done}
 use Rattle.machine.proofs.Costs.{insn-most}
 use Rattle.machine.proofs.Fetch.{undefined-here, runs-here, cycles-told}
 use Rattle.machine.proofs.Gives.{exactly}
-use Rattle.machine.proofs.Cpu.instruction.Statement.{statement}
-use Rattle.machine.proofs.Cpu.instruction.Tie as tie
+use Rattle.machine.proofs.Cpu.instruction_step.Statement.{statement}
+use Rattle.machine.proofs.Cpu.instruction_step.Tie as tie
 
 abbrev start : tie.After-decode → tie.Start
 start c = c .before .before .before .before .before .before .before .before
@@ -28,7 +28,7 @@ fetched c =
       c .before .read-word .ensures,
       c .before .before .before .read2 .ensures,
       c .before .before .before .before .before .read .ensures,
-      start c .pre .1 .0,
+      start c .pre .0,
     )
     at (c .decode .ensures)
 
@@ -42,8 +42,8 @@ returns c =
     )
     exactly
 
-end-requires : tie.Need-end-requires
-end-requires c κs =
+accepted-requires : tie.Need-accepted-requires
+accepted-requires c κs =
     let x = c .before .before in
     let f = x .before .before .before .before .before in
     let a = start f .args in
@@ -60,12 +60,12 @@ returns-2 c =
     let x = c .before .before .before in
     let f = x .before .before .before .before .before in
     let a = start f .args in
-    let on = x .before .before .before .on .ensures ∙ ap (further (f .decode .result .more)) (start f .pre .1 .0) in
+    let on = x .before .before .before .further .ensures ∙ ap (further (f .decode .result .more)) (start f .pre .0) in
     rw
-    (runs-here (a .self) (a .mem .now) (f .decode .result) (fetched f) (a .ime) (start f .pre .1 .1)
+    (runs-here (a .self) (a .mem .now) (f .decode .result) (fetched f) (a .ime) (start f .pre .1)
     (x .before .before .before .before .if1 .left))
     (rw (
-      c .end .ensures,
+      c .accepted .ensures,
       x .execute .ensures .answers,
       x .execute .ensures .leaves,
       x .before .before .ready .ensures,
@@ -73,8 +73,8 @@ returns-2 c =
     )
     exactly)
 
-pub instruction-spec : {M : Type 1} → statement M
-instruction-spec =
+pub instruction-step-spec : {M : Type 1} → statement M
+instruction-step-spec =
     tie.close
     (tie.spec (search needs) (search needs) (search needs) (search needs) (search needs) (search needs) returns (search needs)
-    (search needs) (search needs) end-requires (search needs) returns-2)
+    (search needs) (search needs) accepted-requires (search needs) returns-2)

@@ -1,4 +1,4 @@
--- `step_once` meets its contract: the idle step, refusal 3, the dispatch and the instruction, each under its tests.
+-- `due_step` meets its contract: the idle step, refusal 3, the dispatch and the instruction, each under its tests.
 use mathlib.Core.Bool.{true, false, _&&_}
 use mathlib.Core.Logic.{⊎-elim}
 use mathlib.Core.Path.{_≡_, sym, _∙_}
@@ -7,12 +7,11 @@ use borrow.Author.Tests.{not-false}
 use lib.Dec.{eqb}
 use Rattle.machine.specs.Interrupts.{pendingOf, dispatchDueOf}
 use Rattle.machine.specs.Modes.{settledIme, isHalted, isStopped}
-use Rattle.machine.specs.Step.{nextRest}
+use Rattle.machine.specs.Step.{nextRest, instructionStep, dueStep}
 use Rattle.machine.proofs.Gives.{exactly}
-use Rattle.machine.proofs.Rules.{ruled}
-use Rattle.machine.proofs.Stages.{instructed, stage-stopped, stage-dispatch, stage-idle, stage-insn, quiet-rest, stage-quiet}
-use Rattle.machine.proofs.Cpu.step_once.Statement.{statement}
-use Rattle.machine.proofs.Cpu.step_once.Tie as tie
+use Rattle.machine.proofs.Stages.{stage-stopped, stage-dispatch, stage-idle, stage-insn, quiet-rest, stage-quiet}
+use Rattle.machine.proofs.Cpu.due_step.Statement.{statement}
+use Rattle.machine.proofs.Cpu.due_step.Tie as tie
 
 returns : tie.Need-returns
 returns c =
@@ -54,7 +53,7 @@ start c = c .before .before .before .before
 carried : (c : tie.Joined1)
     → (let a = start c .args in
     (c .if1 .ime ≡ settledIme (a .self .ime) (a .self .ime)) × (c .if1 .rest ≡ nextRest (a .self))
-    × (ruled (a .self) (a .mem .now) ≡ instructed (a .self) (a .mem .now)))
+    × (dueStep (a .self) (a .mem .now) ≡ instructionStep (a .self) (a .mem .now)))
 unfolding settledIme nextRest
 carried c =
     let a = start c .args in
@@ -68,18 +67,18 @@ carried c =
     ))
     (λ w.
     let q = c .before .quiet .ensures (not-false _ (w .0 .left)) in
-    (w .1 ∙ rw (q .1), w .2 ∙ c .before .before .on .ensures ∙ quiet-rest (a .self) (a .mem .now) (q .0), stage-quiet (a .self) (a .mem .now) (q .0) (q .1)))
+    (w .1 ∙ rw (q .1), w .2 ∙ c .before .before .further .ensures ∙ quiet-rest (a .self) (a .mem .now) (q .0), stage-quiet (a .self) (a .mem .now) (q .0) (q .1)))
     (c .if1 .came)
 
-instruction-requires : tie.Need-instruction-requires
-instruction-requires c κs = let k = carried (c .before) in (search needs, (k .1, k .0))
+instruction-step-requires : tie.Need-instruction-step-requires
+instruction-step-requires c κs = let k = carried (c .before) in (k .1, k .0)
 
 returns-4 : tie.Need-returns-4
-returns-4 c = rw (carried (c .before .before .before .before) .2) (c .before .before .instruction .ensures)
+returns-4 c = rw (carried (c .before .before .before .before) .2) (c .before .before .instruction-step .ensures)
 
-pub step-once-spec : {M : Type 1} → statement M
-step-once-spec =
+pub due-step-spec : {M : Type 1} → statement M
+due-step-spec =
     tie.close
     (tie.spec (search needs) (search needs) (search needs) (search needs) (search needs) returns (search needs) (search needs)
     (search needs) returns-2 (search needs) (search needs) (search needs) (search needs) returns-3 (search needs) (search needs)
-    instruction-requires (search needs) returns-4)
+    instruction-step-requires (search needs) returns-4)
