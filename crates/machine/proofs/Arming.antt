@@ -3,7 +3,6 @@
 -- Assumes nothing.
 use Prim.Native.Nat.{ℕ}
 use mathlib.Core.Bool.{false}
-use mathlib.Core.List.{List}
 use mathlib.Core.Logic.{_≢_}
 use mathlib.Core.Path.{_≡_, refl, _∙_, ap}
 use Rattle.insn.specs.declared.Insn.{Insn}
@@ -12,7 +11,7 @@ use Rattle.machine.specs.Answers.{Storing, storing}
 use Rattle.machine.specs.State.{withSp, withIme, hlOf, withHl}
 use Rattle.machine.specs.Stack.{pushedOf, returnedTo, calledOf}
 use Rattle.machine.specs.Execute.{execOf, resultOf, addedToHlOf, addedToSpOf, hlFromSpOf, storedTo, storedAtOf, loadedFrom, complementedOf, withCarryOf, haltedOf}
-use Rattle.machine.specs.Memory.{wordStores}
+use Rattle.machine.specs.Memory.{Memory, wordStores}
 use Rattle.machine.specs.Modes.{isOff, isOn, armedOf, settledIme}
 use Rattle.machine.specs.Interrupts.{pendingOf, dispatchDueOf}
 use Rattle.machine.specs.Step.{dispatches, idles, nextInsn, nextAfter, readyOf, endOf, instructionAct, stepOf}
@@ -25,7 +24,7 @@ use Rattle.machine.proofs.Fields.{imed, value-read, held-read, pair-rea
 
 -- what the instruction i has to do with IME: three set it; every other leaves it, and does the same from an IME u, where HALT asks
 -- that both or neither be Off
-pub data Uses (i : Insn) (s : Cpu) (m : List ℕ) : Type 0 where
+pub data Uses (i : Insn) (s : Cpu) (m : Memory) : Type 0 where
   is-di : i ≡ Di → Uses i s m
   is-ei : i ≡ Ei → Uses i s m
   is-reti : i ≡ Reti → Uses i s m
@@ -33,7 +32,7 @@ pub data Uses (i : Insn) (s : Cpu) (m : List ℕ) : Type 0 where
       → execOf i (withIme u s) m ≡ storing (imed u (execOf i s m .out)) (execOf i s m .stores))
       → Uses i s m
 
-pub exec-uses : (i : Insn) (s : Cpu) (m : List ℕ) → Uses i s m
+pub exec-uses : (i : Insn) (s : Cpu) (m : Memory) → Uses i s m
 unfolding execOf resultOf addedToHlOf addedToSpOf hlFromSpOf hlOf withHl wordStores storedTo storedAtOf loadedFrom complementedOf withCarryOf haltedOf returnedTo calledOf pushedOf
 exec-uses Nop s m = leaves (λ _ _. refl)
 exec-uses (StoreSp w) s m = leaves (λ _ _. refl)
@@ -91,19 +90,19 @@ pub data Switched (t : Ime) : Insn → Ime → Type 0 where
   reti : Switched t Reti On
   kept : {i : Insn} → Switched t i t
 
-uses-switched : {i : Insn} {s : Cpu} {m : List ℕ} → Uses i s m → Switched (s .ime) i (execOf i s m .out .cpu .ime)
+uses-switched : {i : Insn} {s : Cpu} {m : Memory} → Uses i s m → Switched (s .ime) i (execOf i s m .out .cpu .ime)
 unfolding execOf
 uses-switched (is-di e) = rw e di
 uses-switched (is-ei e) = rw e ei
 uses-switched (is-reti e) = rw e reti
 uses-switched {s = s} (leaves e) = rw (ap (λ (w : Storing Done). w .out .cpu .ime) (e (s .ime) refl)) kept
 
-pub exec-switched : (i : Insn) (s : Cpu) (m : List ℕ) → Switched (s .ime) i (execOf i s m .out .cpu .ime)
+pub exec-switched : (i : Insn) (s : Cpu) (m : Memory) → Switched (s .ime) i (execOf i s m .out .cpu .ime)
 exec-switched i s m = uses-switched (exec-uses i s m)
 
 -- to settle IME before the instruction, and nothing at its end, comes to the same
 
-uses-settled : (k : ℕ) (s : Cpu) {i : Insn} {m : List ℕ} → Uses i (withIme Arming s) m
+uses-settled : (k : ℕ) (s : Cpu) {i : Insn} {m : Memory} → Uses i (withIme Arming s) m
     → endOf k Arming (execOf i (withIme Arming s) m) ≡ endOf k Off (execOf i (withIme On s) m)
 unfolding execOf returnedTo settledIme endOf armedOf isOff
 uses-settled k s (is-di e) = rw e
@@ -111,14 +110,14 @@ uses-settled k s (is-ei e) = rw e
 uses-settled k s (is-reti e) = rw e
 uses-settled k s (leaves e) = rw (e On refl, ap (λ (w : Storing Done). w .out .cpu .ime) (e Arming refl))
 
-settled-from : (t : Ime) (k : ℕ) (i : Insn) (s : Cpu) (m : List ℕ)
+settled-from : (t : Ime) (k : ℕ) (i : Insn) (s : Cpu) (m : Memory)
     → endOf k t (execOf i (withIme t s) m) ≡ endOf k Off (execOf i (withIme (settledIme t t) s) m)
 unfolding settledIme endOf
 settled-from Off k i s m = refl
 settled-from Arming k i s m = uses-settled k s (exec-uses i (withIme Arming s) m)
 settled-from On k i s m = refl
 
-pub settled-first : (k : ℕ) (i : Insn) (s : Cpu) (m : List ℕ)
+pub settled-first : (k : ℕ) (i : Insn) (s : Cpu) (m : Memory)
     → endOf k (s .ime) (execOf i s m) ≡ endOf k Off (execOf i (withIme (settledIme (s .ime) (s .ime)) s) m)
 settled-first k i s m = settled-from (s .ime) k i s m
 
@@ -129,7 +128,7 @@ left-alone ei d e r = absurd (e refl)
 left-alone reti d e r = absurd (r refl)
 left-alone kept d e r = refl
 
-pub exec-ime : (i : Insn) (s : Cpu) (m : List ℕ) → i ≢ Di → i ≢ Ei → i ≢ Reti → execOf i s m .out .cpu .ime ≡ s .ime
+pub exec-ime : (i : Insn) (s : Cpu) (m : Memory) → i ≢ Di → i ≢ Ei → i ≢ Reti → execOf i s m .out .cpu .ime ≡ s .ime
 exec-ime i s m = left-alone (exec-switched i s m)
 
 -- at the end of an instruction, by the IME at its start
@@ -172,7 +171,7 @@ being : {A : Type 0} {t u : A} (P : A → Type 0) → t ≡ u → P u → P t
 being P e h = rw e h
 
 -- the instruction at PC
-module _ (s : Cpu) (m : List ℕ) where
+module _ (s : Cpu) (m : Memory) where
   -- IME when the instruction i is done, before rule 3's last sentence
   abbrev doneIme : Insn → Ime
   doneIme i = execOf i (readyOf (nextAfter s m) s) m .out .cpu .ime

@@ -35,7 +35,7 @@ use Rattle.insn.specs.declared.Insn.the-variants.{Nop, StoreSp, Stop, Jr, JrIf,
 use Rattle.insn.proofs.Sound.{SoundOperand, Sound as SoundInsn, place-sound, decode-sound}
 use Rattle.machine.specs.State.{withF, registerOf, withRegister, hlOf, withHl, withPair, withStacked}
 use Rattle.machine.specs.Answers.{With, Storing, storing, storeless}
-use Rattle.machine.specs.Memory.{byteAt, wordAt, Store, store, wordStores, stored, made}
+use Rattle.machine.specs.Memory.{Memory, byteAt, wordAt, Store, store, wordStores, stored, made}
 use Rattle.machine.specs.Stack.{pushedOf, returnedTo, calledOf}
 use Rattle.machine.specs.Operands.{valueOf, heldOf, placedOf, updatedOf, movedOf}
 use Rattle.machine.specs.Execute.{done, plainly, execOf, resultOf, addedToHlOf, addedToSpOf, hlFromSpOf, jumpedIf, calledIf, returnedIf, storedTo, storedAtOf, loadedFrom, complementedOf, withCarryOf, haltedOf}
@@ -51,7 +51,7 @@ use Rattle.machine.proofs.Rules.{by-outcome, by-rules}
 
 -- what is read
 
-pub word-at-below : (m : List ℕ) (at : ℕ) → Bytes m → wordAt m at < 65536
+pub word-at-below : (m : Memory) (at : ℕ) → Bytes m → wordAt m at < 65536
 unfolding wordAt
 word-at-below m at b = word-below _ _ (b _) (b at)
 
@@ -69,13 +69,13 @@ pub hl-below : (s : Cpu) → Sound s → hlOf s < 65536
 unfolding hlOf
 hl-below s h = word-below (s .h) (s .l) (h .h) (h .l)
 
-pub value-below : (o : Operand) (s : Cpu) (m : List ℕ) → SoundOperand o → Sound s → Bytes m → valueOf o s m < 256
+pub value-below : (o : Operand) (s : Cpu) (m : Memory) → SoundOperand o → Sound s → Bytes m → valueOf o s m < 256
 unfolding valueOf
 value-below (Reg r) s m i h b = reg-below r s h
 value-below AtHl s m i h b = b (hlOf s)
 value-below (Const v) s m i h b = i
 
-held-below : (p : Place) (s : Cpu) (m : List ℕ) → Sound s → Bytes m → heldOf p s m < 256
+held-below : (p : Place) (s : Cpu) (m : Memory) → Sound s → Bytes m → heldOf p s m < 256
 unfolding heldOf
 held-below p s m h b = value-below (operandOf p) s m (place-sound p) h b
 
@@ -138,7 +138,7 @@ result-sound : (r : Byte) (s : Cpu) → ByteFits r → Sound s → Sound (result
 unfolding resultOf
 result-sound r s f h = omega (arith, f .value-below, f .flags-below)
 
-loaded-sound : (at : ℕ) (s : Cpu) (m : List ℕ) → Sound s → Bytes m → Sound (loadedFrom at s m)
+loaded-sound : (at : ℕ) (s : Cpu) (m : Memory) → Sound s → Bytes m → Sound (loadedFrom at s m)
 unfolding loadedFrom
 loaded-sound at s m h b = omega (arith, b at)
 
@@ -163,26 +163,26 @@ abbrev Small : List Store → Type 0
 Small [] = Unit {0}
 Small (x ∷ xs) = (x .value < 256) × Small xs
 
-stored-small : (m : List ℕ) (to v at : ℕ) (t u : Bool) → eqb at to ≡ t → leb (length m) to ≡ u → v < 256 → Bytes m
+stored-small : (m : Memory) (to v at : ℕ) (t u : Bool) → eqb at to ≡ t → leb (length m) to ≡ u → v < 256 → Bytes m
     → byteAt (stored m to v) at < 256
 stored-small m to v at false u e k p b = rw (stored-other m to v at (eqb-false at to e)) (b at)
 stored-small m to v at true true e k p b = rw (stored-out m to v (leb-true _ _ k)) (b at)
 stored-small m to v at true false e k p b =
     rw (eqb-true at to e, stored-same m to v (leb-false (length m) to k)) p
 
-pub stored-bytes : (m : List ℕ) (to v : ℕ) → v < 256 → Bytes m → Bytes (stored m to v)
+pub stored-bytes : (m : Memory) (to v : ℕ) → v < 256 → Bytes m → Bytes (stored m to v)
 stored-bytes m to v p b at = stored-small m to v at _ _ refl refl p b
 
-made-bytes : (xs : List Store) (m : List ℕ) → Small xs → Bytes m → Bytes (made xs m)
+made-bytes : (xs : List Store) (m : Memory) → Small xs → Bytes m → Bytes (made xs m)
 made-bytes [] m p b = b
 made-bytes (x ∷ xs) m p b = made-bytes xs _ (p .1) (stored-bytes m (x .at) (x .value) (p .0) b)
 
 -- what an instruction stores: at most two bytes, each below 256
-pub record Stored (i : Insn) (s : Cpu) (m : List ℕ) (xs : List Store) : Type 0 where
+pub record Stored (i : Insn) (s : Cpu) (m : Memory) (xs : List Store) : Type 0 where
   pub few : length xs ≤ 2
   pub small : SoundInsn i → Sound s → Bytes m → Small xs
 
-module _ {i : Insn} {s : Cpu} {m : List ℕ} where
+module _ {i : Insn} {s : Cpu} {m : Memory} where
   none : Stored i s m []
   none = record { few = omega arith; small = λ _ _ _. tt }
 
@@ -253,17 +253,17 @@ returned-most k true to s = omega arith
 returned-most k false to s = omega arith
 
 -- what an instruction makes of the state: valid flags stay valid, and what is sound stays sound
-pub record Changed (i : Insn) (s : Cpu) (m : List ℕ) (t : Cpu) : Type 0 where
+pub record Changed (i : Insn) (s : Cpu) (m : Memory) (t : Cpu) : Type 0 where
   pub low : s .f % 16 ≡ 0 → t .f % 16 ≡ 0
   pub sound : SoundInsn i → Sound s → Bytes m → Sound t
 
 -- what holds of an instruction that is done: it costs no more than its shape says, and its state and its stores are such
-pub record Executed (i : Insn) (s : Cpu) (m : List ℕ) (w : Storing Done) : Type 0 where
+pub record Executed (i : Insn) (s : Cpu) (m : Memory) (w : Storing Done) : Type 0 where
   pub extra : w .out .extra ≤ shapeOf i .taken
   pub state : Changed i s m (w .out .cpu)
   pub stores : Stored i s m (w .stores)
 
-module _ {i : Insn} {s : Cpu} {m : List ℕ} where
+module _ {i : Insn} {s : Cpu} {m : Memory} where
   -- a state with other flags, with the same, and the state itself
   new : {t : Cpu} → t .f % 16 ≡ 0 → (SoundInsn i → Sound s → Bytes m → Sound t) → Changed i s m t
   new e h = record { low = λ _. e; sound = h }
@@ -307,7 +307,7 @@ module _ {i : Insn} {s : Cpu} {m : List ℕ} where
       }
 
 -- every instruction
-pub executed : (i : Insn) (s : Cpu) (m : List ℕ) → Executed i s m (execOf i s m)
+pub executed : (i : Insn) (s : Cpu) (m : Memory) → Executed i s m (execOf i s m)
 unfolding execOf wordStores resultOf addedToHlOf addedToSpOf hlFromSpOf withHl storedTo storedAtOf loadedFrom complementedOf withCarryOf haltedOf rotationOf rotationAOf returnedTo calledOf pushedOf updatedOf
 executed Nop s m = plain kept
 executed (StoreSp w) s m = does kept (two (low-below (s .sp)) (high-below (s .sp)))
@@ -358,7 +358,7 @@ executed (Call w) s m = does (same refl (λ i h b. omega (arith, back-below 2 (s
 executed (Rst v) s m = does (same refl (λ i h b. omega (arith, back-below 2 (s .sp), i))) (push-stores _ s)
 executed Undefined s m = plain kept
 
-pub exec-bytes : (i : Insn) (s : Cpu) (m : List ℕ) → SoundInsn i → Sound s → Bytes m → Bytes (made (execOf i s m .stores) m)
+pub exec-bytes : (i : Insn) (s : Cpu) (m : Memory) → SoundInsn i → Sound s → Bytes m → Bytes (made (execOf i s m .stores) m)
 exec-bytes i s m k h b = made-bytes (execOf i s m .stores) m (executed i s m .stores .small k h b) b
 
 -- a dispatch
@@ -381,7 +381,7 @@ pub record SoundStep (w : With Stepped) : Type 0 where
   pub cpu : Sound (w .out .cpu)
   pub mem : Bytes (w .mem)
 
-module _ (s : Cpu) (m : List ℕ) (h : Sound s) (b : Bytes m) where
+module _ (s : Cpu) (m : Memory) (h : Sound s) (b : Bytes m) where
   dispatch-sound : SoundStep (accepting (act 5 (dispatchOf (lowestOf (pendingOf m)) s m)) m)
   unfolding dispatchOf pushedOf vectoredOf
   dispatch-sound =

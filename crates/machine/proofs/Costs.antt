@@ -1,6 +1,6 @@
 -- What a step costs: an instruction at most 6 cycles, those of a branch taken among them; an accepted step 1 to 6.
 -- Assumes nothing.
-use Prim.Native.Nat.{ℕ, _+_, _≤_}
+use Prim.Native.Nat.{_+_, _≤_}
 use mathlib.Core.List.{List}
 use mathlib.Core.Path.{_≡_}
 use native.Mathlib.Omega.{arith}
@@ -8,6 +8,7 @@ use Rattle.arith.specs.Refusals.{Refusal}
 use Rattle.insn.specs.Shapes.{shapeOf}
 use Rattle.insn.specs.declared.Insn.{Insn}
 use Rattle.insn.proofs.Laws.{cycles-most}
+use Rattle.machine.specs.Memory.{Memory}
 use Rattle.machine.specs.Answers.{With}
 use Rattle.machine.specs.Execute.{execOf}
 use Rattle.machine.specs.Step.{nextInsn, nextAfter, readyOf, endOf, instructionAct, ruleOf, dueRefusals, stepRefusals, stepUnless, dueStep, stepOf}
@@ -17,7 +18,7 @@ use Rattle.machine.proofs.Bounds.{executed}
 use Rattle.machine.proofs.Rules.{by-outcome, by-rules}
 use Rattle.machine.proofs.Refused.{due-least, step-least}
 
-pub insn-most : (i : Insn) (s : Cpu) (m : List ℕ) → shapeOf i .cycles + execOf i s m .out .extra ≤ 6
+pub insn-most : (i : Insn) (s : Cpu) (m : Memory) → shapeOf i .cycles + execOf i s m .out .extra ≤ 6
 insn-most i s m = omega (arith, cycles-most i, executed i s m .extra)
 
 -- where a step is accepted it costs 1 to 6
@@ -25,7 +26,7 @@ pub record Paid (w : With Stepped) : Type 0 where
   pub least : w .out .code ≡ 0 → 1 ≤ w .out .cycles
   pub most : w .out .cycles ≤ 6
 
-module _ (s : Cpu) (m : List ℕ) where
+module _ (s : Cpu) (m : Memory) where
   rule-most : ruleOf s m .cycles ≤ 6
   unfolding instructionAct endOf
   rule-most =

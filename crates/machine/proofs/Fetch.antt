@@ -1,8 +1,6 @@
 -- The instruction at PC as the code fetches it: what its bytes decode to, and the two ends of rule 3, where IME is settled before
 -- the instruction.
 -- Assumes nothing.
-use Prim.Native.Nat.{ℕ}
-use mathlib.Core.List.{List}
 use mathlib.Core.Logic.{_≢_}
 use mathlib.Core.Path.{_≡_, ap}
 use borrow.Author.Tests.{ne-eqb}
@@ -13,7 +11,7 @@ use Rattle.insn.specs.declared.Decoded.{Decoded}
 use Rattle.insn.proofs.Laws.{undefined-is}
 use Rattle.machine.specs.Execute.{execOf}
 use Rattle.machine.specs.State.{withIme}
-use Rattle.machine.specs.Memory.{byteAt, wordAt}
+use Rattle.machine.specs.Memory.{Memory, byteAt, wordAt}
 use Rattle.machine.specs.Modes.{settledIme}
 use Rattle.machine.specs.Step.{Act, refusing, accepting, nextRest, nextInsn, nextAfter, readyOf, endOf, instructionAct, instructionStep}
 use Rattle.machine.specs.declared.Ime.{Ime}
@@ -21,7 +19,7 @@ use Rattle.machine.specs.declared.Ime.the-variants.{Off}
 use Rattle.machine.specs.declared.Cpu.{Cpu}
 use Rattle.machine.proofs.Arming.{settled-first}
 
-module _ (s : Cpu) (m : List ℕ) (d : Decoded)
+module _ (s : Cpu) (m : Memory) (d : Decoded)
     (read : d ≡ decodedOf (byteAt m (s .pc)) (byteAt m (nextRest s)) (wordAt m (nextRest s))) where
   shaped : d ≡ shapedOf (nextInsn s m)
   unfolding decodedOf nextInsn

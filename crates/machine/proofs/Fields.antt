@@ -3,7 +3,6 @@
 -- Assumes nothing.
 use Prim.Native.Nat.{ℕ}
 use mathlib.Core.Bool.{Bool, true, false}
-use mathlib.Core.List.{List}
 use mathlib.Core.Path.{_≡_, refl}
 use Rattle.arith.specs.declared.Byte.{Byte}
 use Rattle.insn.specs.Grid.{operandOf}
@@ -19,6 +18,7 @@ use Rattle.insn.specs.declared.Stacked.{Stacked}
 use Rattle.insn.specs.declared.Stacked.the-variants as stacked
 use Rattle.insn.specs.declared.Pointer.{Pointer}
 use Rattle.insn.specs.declared.Pointer.the-variants as pointer
+use Rattle.machine.specs.Memory.{Memory}
 use Rattle.machine.specs.Answers.{storing}
 use Rattle.machine.specs.State.{withF, withIme, registerOf, withRegister, hlOf, withHl, pairOf, withPair, stackedOf, withStacked}
 use Rattle.machine.specs.Stack.{pushedOf, returnedTo, calledOf}
@@ -102,13 +102,13 @@ module _ (u : Ime) (s : Cpu) where
   reg-read reg.L = refl
   reg-read reg.A = refl
 
-  pub value-read : (o : Operand) (m : List ℕ) → valueOf o (withIme u s) m ≡ valueOf o s m
+  pub value-read : (o : Operand) (m : Memory) → valueOf o (withIme u s) m ≡ valueOf o s m
   unfolding valueOf hlOf
   value-read (Reg r) m = reg-read r
   value-read AtHl m = refl
   value-read (Const v) m = refl
 
-  pub held-read : (p : Place) (m : List ℕ) → heldOf p (withIme u s) m ≡ heldOf p s m
+  pub held-read : (p : Place) (m : Memory) → heldOf p (withIme u s) m ≡ heldOf p s m
   unfolding heldOf
   held-read p m = value-read (operandOf p) m
 

@@ -1,10 +1,11 @@
 -- What a step keeps: the memory's length, and the low four bits of F at 0.
 -- Assumes nothing.
-use Prim.Native.Nat.{ℕ, _%_}
+use Prim.Native.Nat.{_%_}
 use mathlib.Core.List.{List}
 use mathlib.Core.Path.{_≡_, refl}
 use lib.ListN.{length}
 use Rattle.arith.specs.Refusals.{Refusal}
+use Rattle.machine.specs.Memory.{Memory}
 use Rattle.machine.specs.Stack.{pushedOf}
 use Rattle.machine.specs.Interrupts.{dispatchOf, vectoredOf}
 use Rattle.machine.specs.Step.{nextInsn, nextAfter, readyOf, endOf, instructionAct, ruleOf, dueRefusals, stepRefusals, stepUnless, dueStep, stepOf}
@@ -15,14 +16,14 @@ use Rattle.machine.proofs.Rules.{by-outcome, by-rules}
 
 -- length
 
-pub step-length : (s : Cpu) (m : List ℕ) → length (stepOf s m .mem) ≡ length m
+pub step-length : (s : Cpu) (m : Memory) → length (stepOf s m .mem) ≡ length m
 unfolding stepOf
 step-length s m =
     by-outcome (λ w. length (w .mem) ≡ length m) (ruleOf s m) s m (λ _. refl) (made-length (ruleOf s m .stores) m) (stepRefusals s m)
 
 -- the low four bits of F
 
-module _ (s : Cpu) (m : List ℕ) (p : s .f % 16 ≡ 0) where
+module _ (s : Cpu) (m : Memory) (p : s .f % 16 ≡ 0) where
   rule-low : ruleOf s m .cpu .f % 16 ≡ 0
   unfolding readyOf instructionAct endOf dispatchOf vectoredOf pushedOf
   rule-low =

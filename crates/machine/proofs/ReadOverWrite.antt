@@ -11,13 +11,13 @@ use lib.Seq.{getD-set-same, getD-set-other, set-set, set-comm, set-getD, set-out
 use Rattle.arith.specs.Width.{sumOf, differenceOf}
 use Rattle.arith.specs.Words.{highOf, lowOf, further, back}
 use Rattle.arith.proofs.Laws.{word-back, further-below, back-below, further-back}
-use Rattle.machine.specs.Memory.{byteAt, wordAt, Store, wordStores, stored, made}
+use Rattle.machine.specs.Memory.{Memory, memorySize, byteAt, wordAt, Store, wordStores, stored, made}
 use Rattle.machine.specs.Stack.{pushedOf}
 use Rattle.machine.specs.declared.Cpu.{Cpu}
 
 -- bytes
 
-module _ (m : List ℕ) where
+module _ (m : Memory) where
   pub stored-length : (at v : ℕ) → length (stored m at v) ≡ length m
   unfolding stored
   stored-length at v = length-set m at v
@@ -50,7 +50,7 @@ module _ (m : List ℕ) where
 
 -- stores in their order
 
-pub made-length : (xs : List Store) (m : List ℕ) → length (made xs m) ≡ length m
+pub made-length : (xs : List Store) (m : Memory) → length (made xs m) ≡ length m
 made-length [] m = refl
 made-length (x ∷ xs) m = made-length xs _ ∙ stored-length m (x .at) (x .value)
 
@@ -59,7 +59,7 @@ abbrev pub Spared : ℕ → List Store → Type 0
 Spared at [] = Unit {0}
 Spared at (x ∷ xs) = (at ≢ x .at) × Spared at xs
 
-pub made-other : (xs : List Store) (m : List ℕ) (at : ℕ) → Spared at xs → byteAt (made xs m) at ≡ byteAt m at
+pub made-other : (xs : List Store) (m : Memory) (at : ℕ) → Spared at xs → byteAt (made xs m) at ≡ byteAt m at
 made-other [] m at h = refl
 made-other (x ∷ xs) m at h = made-other xs _ at (h .1) ∙ stored-other m (x .at) (x .value) at (h .0)
 
@@ -79,8 +79,8 @@ back-next at = omega arith
 
 -- words
 
-module _ (m : List ℕ) where
-  pub word-same : (at w : ℕ) → length m ≡ 65536 → at < 65536 → w < 65536 → wordAt (made (wordStores at w) m) at ≡ w
+module _ (m : Memory) where
+  pub word-same : (at w : ℕ) → length m ≡ memorySize → at < 65536 → w < 65536 → wordAt (made (wordStores at w) m) at ≡ w
   unfolding wordAt wordStores
   word-same at w l p q =
       let lower = stored m at (lowOf w) in
@@ -99,8 +99,8 @@ module _ (m : List ℕ) where
 
 -- a push: the word lies where SP points afterwards, and the rest of the memory is as it was
 
-module _ (w : ℕ) (s : Cpu) (m : List ℕ) where
-  pub push-same : length m ≡ 65536 → w < 65536 → wordAt (made (pushedOf w s .stores) m) (pushedOf w s .out .sp) ≡ w
+module _ (w : ℕ) (s : Cpu) (m : Memory) where
+  pub push-same : length m ≡ memorySize → w < 65536 → wordAt (made (pushedOf w s .stores) m) (pushedOf w s .out .sp) ≡ w
   unfolding pushedOf wordAt
   push-same l q =
       let higher = stored m (back 1 (s .sp)) (highOf w) in

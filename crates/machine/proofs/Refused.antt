@@ -12,19 +12,19 @@ use Rattle.arith.proofs.Refusals.{NoneHolds, First, numberAt, distinct, code-wi
 use Rattle.insn.specs.Shapes.{shapeOf, isUndefined}
 use Rattle.insn.proofs.Laws.{undefinedBytes, among, undefined-is, undefined-bytes}
 use Rattle.machine.specs.Answers.{With}
-use Rattle.machine.specs.Memory.{byteAt}
+use Rattle.machine.specs.Memory.{Memory, byteAt}
 use Rattle.machine.specs.Step.{Act, refusing, accepting, dispatches, idles, nextRest, nextInsn, endOf, instructionAct, ruleBy, ruleOf, inputRefusals, dueRefusals, stepRefusals, stepUnless, dueStep, stepOf}
 use Rattle.machine.specs.declared.Cpu.{Cpu}
 use Rattle.machine.specs.declared.Stepped.{Stepped}
 use Rattle.machine.proofs.Rules.{by-outcome}
 
 -- where w is refused it is s and m with no cycles
-pub record Unmoved (s : Cpu) (m : List ℕ) (w : With Stepped) : Type 0 where
+pub record Unmoved (s : Cpu) (m : Memory) (w : With Stepped) : Type 0 where
   pub cpu : w .out .code ≢ 0 → w .out .cpu ≡ s
   pub mem : w .out .code ≢ 0 → w .mem ≡ m
   pub cycles : w .out .code ≢ 0 → w .out .cycles ≡ 0
 
-module _ (rs : List Refusal) (a : Act) (s : Cpu) (m : List ℕ) where
+module _ (rs : List Refusal) (a : Act) (s : Cpu) (m : Memory) where
   pub unless-unmoved : Unmoved s m (stepUnless rs a s m)
   unless-unmoved =
       by-outcome (Unmoved s m) a s m (λ n. record { cpu = λ _. refl; mem = λ _. refl; cycles = λ _. refl })
@@ -40,7 +40,7 @@ module _ (rs : List Refusal) (a : Act) (s : Cpu) (m : List ℕ) where
   pub unless-code : stepUnless rs a s m .out .code ≡ codeOf rs
   unless-code = at-code (codeOf rs)
 
-module _ (s : Cpu) (m : List ℕ) where
+module _ (s : Cpu) (m : Memory) where
   pub due-unmoved : Unmoved s m (dueStep s m)
   due-unmoved = unless-unmoved (dueRefusals s m) (ruleOf s m) s m
 
@@ -89,7 +89,7 @@ module _ (s : Cpu) (m : List ℕ) where
 
 -- an accepted step costs at least one cycle: an instruction that is not refused has some
 
-module _ (s : Cpu) (m : List ℕ) where
+module _ (s : Cpu) (m : Memory) where
   rule-least : (d i : Bool) → (not d && not i && isUndefined (nextInsn s m)) ≡ false → 1 ≤ ruleBy d i s m .cycles
   unfolding ruleBy instructionAct endOf
   rule-least true i e = omega arith

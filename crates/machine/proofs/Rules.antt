@@ -12,6 +12,7 @@ use lib.Dec.{eqb}
 use lib.ListN.{length}
 use Rattle.arith.specs.Refusals.{Refusal, codeOf, order}
 use Rattle.arith.proofs.Refusals.{by-code}
+use Rattle.machine.specs.Memory.{Memory, memorySize}
 use Rattle.machine.specs.Answers.{With, storeless}
 use Rattle.machine.specs.Modes.{isOn, isHalted, isStopped}
 use Rattle.machine.specs.Interrupts.{pendingOf, lowestOf, dispatchDueOf, dispatchOf}
@@ -25,17 +26,17 @@ use Rattle.machine.specs.declared.Stepped.{Stepped}
 
 -- a step behind any refusals
 
-pub by-outcome : (P : With Stepped → Type 0) (a : Act) (s : Cpu) (m : List ℕ) → ((n : ℕ) → P (refusing (suc n) s m))
+pub by-outcome : (P : With Stepped → Type 0) (a : Act) (s : Cpu) (m : Memory) → ((n : ℕ) → P (refusing (suc n) s m))
     → P (accepting a m) → (rs : List Refusal) → P (stepUnless rs a s m)
 by-outcome P a s m refused accepted rs = by-code P (λ _. accepting a m) (λ n. refusing n s m) refused accepted (codeOf rs)
 
 -- Q holds where each rule leads
-pub record Rules (Q : Act → Type 0) (s : Cpu) (m : List ℕ) : Type 0 where
+pub record Rules (Q : Act → Type 0) (s : Cpu) (m : Memory) : Type 0 where
   pub dispatch : Q (act 5 (dispatchOf (lowestOf (pendingOf m)) s m))
   pub idle : Q (act 1 (storeless s))
   pub insn : Q (instructionAct s m)
 
-module _ (Q : Act → Type 0) (s : Cpu) (m : List ℕ) (r : Rules Q s m) where
+module _ (Q : Act → Type 0) (s : Cpu) (m : Memory) (r : Rules Q s m) where
   at-rules : (d i : Bool) → Q (ruleBy d i s m)
   unfolding ruleBy
   at-rules true i = r .dispatch
@@ -46,12 +47,12 @@ module _ (Q : Act → Type 0) (s : Cpu) (m : List ℕ) (r : Rules Q s m) where
   unfolding ruleOf
   by-rules = at-rules _ _
 
-pub step-due : (s : Cpu) (m : List ℕ) → length m ≡ 65536 → s .f % 16 ≡ 0 → stepOf s m ≡ dueStep s m
+pub step-due : (s : Cpu) (m : Memory) → length m ≡ memorySize → s .f % 16 ≡ 0 → stepOf s m ≡ dueStep s m
 unfolding order inputRefusals stepRefusals stepOf
 step-due s m l f = rw (eq-eqb _ _ l, eq-eqb _ _ f)
 
 -- a step that is accepted, and is neither a dispatch nor idle, is the instruction at PC
-pub step-insn : (s : Cpu) (m : List ℕ) → dispatches s m ≡ false → idles s m ≡ false → stepOf s m .out .code ≡ 0
+pub step-insn : (s : Cpu) (m : Memory) → dispatches s m ≡ false → idles s m ≡ false → stepOf s m .out .code ≡ 0
     → stepOf s m ≡ accepting (instructionAct s m) m
 unfolding ruleOf ruleBy stepOf
 step-insn s m d i =

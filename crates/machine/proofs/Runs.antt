@@ -15,7 +15,7 @@ use Rattle.arith.proofs.Refusals.{by-code}
 use Rattle.machine.specs.Answers.{With}
 use Rattle.machine.specs.Memory.{Memory, memorySize}
 use Rattle.machine.specs.Step.{stepOf}
-use Rattle.machine.specs.Run.{ending, whileBelow, afterStep, runFrom, runRefusals, runOf, runs}
+use Rattle.machine.specs.Run.{largestBudget, ending, whileBelow, afterStep, runFrom, runRefusals, runOf, runs}
 use Rattle.machine.specs.declared.Cpu.{Cpu}
 use Rattle.machine.specs.declared.Ran.{Ran}
 use Rattle.machine.specs.declared.Stepped.{Stepped}
@@ -136,20 +136,20 @@ pub run-counted : (b : ℕ) (s : Cpu) (m : Memory) → Counted b (runFrom b b 0 
 run-counted b s m = counted b b 0 0 s m (omega arith) (omega arith) (omega arith)
 
 -- refusals 1, 2 and 5, in their order, and then the turns
-pub run-unfit : (b : ℕ) (s : Cpu) (m : Memory) → length m ≢ 65536 → runOf b s m ≡ ending 1 0 0 s m
+pub run-unfit : (b : ℕ) (s : Cpu) (m : Memory) → length m ≢ memorySize → runOf b s m ≡ ending 1 0 0 s m
 unfolding order runs
 run-unfit b s m l = rw (ne-eqb _ _ l)
 
-pub run-flags : (b : ℕ) (s : Cpu) (m : Memory) → length m ≡ 65536 → s .f % 16 ≢ 0 → runOf b s m ≡ ending 2 0 0 s m
+pub run-flags : (b : ℕ) (s : Cpu) (m : Memory) → length m ≡ memorySize → s .f % 16 ≢ 0 → runOf b s m ≡ ending 2 0 0 s m
 unfolding order runs
 run-flags b s m l f = rw (eq-eqb _ _ l, ne-eqb _ _ f)
 
-pub run-budget : (b : ℕ) (s : Cpu) (m : Memory) → length m ≡ 65536 → s .f % 16 ≡ 0 → 1048576 < b
+pub run-budget : (b : ℕ) (s : Cpu) (m : Memory) → length m ≡ memorySize → s .f % 16 ≡ 0 → largestBudget < b
     → runOf b s m ≡ ending 5 0 0 s m
 unfolding order runs
 run-budget b s m l f p = rw (eq-eqb _ _ l, eq-eqb _ _ f, lt-ltb _ _ p)
 
-pub run-valid : (b : ℕ) (s : Cpu) (m : Memory) → length m ≡ 65536 → s .f % 16 ≡ 0 → b ≤ 1048576
+pub run-valid : (b : ℕ) (s : Cpu) (m : Memory) → length m ≡ memorySize → s .f % 16 ≡ 0 → b ≤ largestBudget
     → runOf b s m ≡ runFrom b b 0 0 s m
 unfolding order runs
 run-valid b s m l f p = rw (eq-eqb _ _ l, eq-eqb _ _ f, le-ltb _ _ p)
@@ -167,7 +167,7 @@ step-is-run s m = by-tests _ _ refl refl
         run-valid 1 s m (eqb-true _ _ p) (eqb-true _ _ q) (omega arith) ∙ step-run-at s m (turn 1 0 s m)
 
 -- budget 0 takes no step
-pub run-none : (s : Cpu) (m : Memory) → length m ≡ 65536 → s .f % 16 ≡ 0 → runOf 0 s m ≡ ending 0 0 0 s m
+pub run-none : (s : Cpu) (m : Memory) → length m ≡ memorySize → s .f % 16 ≡ 0 → runOf 0 s m ≡ ending 0 0 0 s m
 unfolding runFrom
 run-none s m l f = run-valid 0 s m l f (omega arith)
 
@@ -202,7 +202,7 @@ run-keeps P k (suc t) b spent steps s m h =
 -- valid input stays valid, and then a run ends with 0, 3 or 4
 
 pub record Valid (s : Cpu) (m : Memory) : Type 0 where
-  pub long : length m ≡ 65536
+  pub long : length m ≡ memorySize
   pub low : s .f % 16 ≡ 0
 
 pub step-valid : (s : Cpu) (m : Memory) → Valid s m → Valid (stepOf s m .out .cpu) (stepOf s m .mem)
@@ -302,12 +302,12 @@ continued B w =
     (λ _. w)
 
 -- the rest of a run of valid input is a run of valid input
-continued-valid : (B : ℕ) (w : With Ran) → B ≤ 1048576 → Valid (w .out .cpu) (w .mem) → continued B w ≡ resumed B w
+continued-valid : (B : ℕ) (w : With Ran) → B ≤ largestBudget → Valid (w .out .cpu) (w .mem) → continued B w ≡ resumed B w
 unfolding continued resumed
 continued-valid B w p v = rw (run-valid (B - w .out .spent) (w .out .cpu) (w .mem) (v .long) (v .low) (omega arith))
 
 slices-at : (b B : ℕ) (s : Cpu) (m : Memory) (l f : Bool)
-    → eqb (length m) 65536 ≡ l → eqb (s .f % 16) 0 ≡ f → b ≤ B → B ≤ 1048576
+    → eqb (length m) memorySize ≡ l → eqb (s .f % 16) 0 ≡ f → b ≤ B → B ≤ largestBudget
     → runOf B s m ≡ continued B (runOf b s m)
 slices-at b B s m true true l f o p =
     let v : Valid s m = record { long = eqb-true _ _ l; low = eqb-true _ _ f } in
@@ -323,15 +323,15 @@ slices-at b B s m true false l f o p =
 slices-at b B s m false f l e o p =
     rw (run-unfit b s m (eqb-false _ _ l), run-unfit B s m (eqb-false _ _ l)) (unfold continued unlessRefused in refl)
 
-pub run-slices : (b B : ℕ) (s : Cpu) (m : Memory) → b ≤ B → B ≤ 1048576 → runOf B s m ≡ continued B (runOf b s m)
+pub run-slices : (b B : ℕ) (s : Cpu) (m : Memory) → b ≤ B → B ≤ largestBudget → runOf B s m ≡ continued B (runOf b s m)
 run-slices b B s m o p = slices-at b B s m _ _ refl refl o p
 
-pub slice-done : (b B : ℕ) (s : Cpu) (m : Memory) → b ≤ B → B ≤ 1048576 → runOf b s m .out .code ≡ 0
+pub slice-done : (b B : ℕ) (s : Cpu) (m : Memory) → b ≤ B → B ≤ largestBudget → runOf b s m .out .code ≡ 0
     → runOf B s m ≡ (let w = runOf b s m in after (w .out .spent) (w .out .steps) (runOf (B - w .out .spent) (w .out .cpu) (w .mem)))
 unfolding continued unlessRefused
 slice-done b B s m o p e = run-slices b B s m o p ∙ rw e
 
-pub slice-refused : (b B : ℕ) (s : Cpu) (m : Memory) → b ≤ B → B ≤ 1048576 → runOf b s m .out .code ≢ 0
+pub slice-refused : (b B : ℕ) (s : Cpu) (m : Memory) → b ≤ B → B ≤ largestBudget → runOf b s m .out .code ≢ 0
     → runOf B s m ≡ runOf b s m
 unfolding continued unlessRefused
 slice-refused b B s m o p e = run-slices b B s m o p ∙ at (runOf b s m .out .code) refl

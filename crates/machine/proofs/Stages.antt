@@ -1,9 +1,9 @@
 -- Where the tests of a step lead, in the order of the code: refusals 1 and 2, the idle step, refusal 3, the dispatch, the
 -- instruction.
 -- Assumes nothing.
-use Prim.Native.Nat.{ℕ, _%_}
+use Prim.Native.Nat.{_%_}
 use mathlib.Core.Bool.{true, false, _&&_, and-false}
-use mathlib.Core.List.{List, [], _∷_}
+use mathlib.Core.List.{[], _∷_}
 use mathlib.Core.Logic.{_≢_}
 use mathlib.Core.Path.{_≡_}
 use borrow.Author.Tests.{eq-eqb, ne-eqb}
@@ -12,6 +12,7 @@ use lib.ListN.{length}
 use Rattle.arith.specs.Refusals.{_when_, order}
 use Rattle.arith.specs.Words.{further}
 use Rattle.insn.specs.Shapes.{isUndefined}
+use Rattle.machine.specs.Memory.{Memory, memorySize}
 use Rattle.machine.specs.Answers.{With, storeless}
 use Rattle.machine.specs.Modes.{isOn, isHalted, isStopped}
 use Rattle.machine.specs.Interrupts.{pendingOf, lowestOf, dispatchDueOf, dispatchOf}
@@ -22,14 +23,14 @@ use Rattle.machine.specs.declared.Cpu.{Cpu}
 use Rattle.machine.specs.declared.Stepped.{Stepped}
 use Rattle.machine.proofs.Rules.{idle-is}
 
-module _ (s : Cpu) (m : List ℕ) where
-  pub stage-unfit : length m ≢ 65536 → stepOf s m ≡ refusing 1 s m
+module _ (s : Cpu) (m : Memory) where
+  pub stage-unfit : length m ≢ memorySize → stepOf s m ≡ refusing 1 s m
   unfolding order inputRefusals stepRefusals stepOf
-  stage-unfit p = rw (ne-eqb (length m) 65536 p)
+  stage-unfit p = rw (ne-eqb (length m) memorySize p)
 
-  pub stage-flags : length m ≡ 65536 → s .f % 16 ≢ 0 → stepOf s m ≡ refusing 2 s m
+  pub stage-flags : length m ≡ memorySize → s .f % 16 ≢ 0 → stepOf s m ≡ refusing 2 s m
   unfolding order inputRefusals stepRefusals stepOf
-  stage-flags p q = rw (eq-eqb (length m) 65536 p, ne-eqb (s .f % 16) 0 q)
+  stage-flags p q = rw (eq-eqb (length m) memorySize p, ne-eqb (s .f % 16) 0 q)
 
   -- Halted with nothing pending is neither Stopped nor due for a dispatch
   pub stage-idle : (isHalted (s .mode) && eqb (pendingOf m) 0) ≡ true → dueStep s m ≡ accepting (act 1 (storeless s)) m

@@ -7,7 +7,7 @@ use native.Mathlib.Nat.{le-trans}
 use native.Mathlib.Omega.{arith}
 use lib.ListN.{length}
 use Rattle.arith.specs.Refusals.{codeOf, unlessRefused}
-use Rattle.machine.specs.Memory.{byteAt, Store, made}
+use Rattle.machine.specs.Memory.{Memory, byteAt, Store, made}
 use Rattle.machine.specs.Stack.{pushedOf}
 use Rattle.machine.specs.Interrupts.{dispatchOf}
 use Rattle.machine.specs.Step.{Act, refusing, accepting, nextInsn, nextAfter, readyOf, endOf, instructionAct, ruleOf, stepRefusals, stepOf}
@@ -17,11 +17,11 @@ use Rattle.machine.proofs.ReadOverWrite.{Spared, made-other}
 use Rattle.machine.proofs.Rules.{by-rules}
 
 -- a refused step stores nothing
-unfoldable pub storesOf : Cpu → List ℕ → List Store
+unfoldable pub storesOf : Cpu → Memory → List Store
 storesOf s m = unlessRefused (codeOf (stepRefusals s m)) (λ _. ruleOf s m .stores) (λ _. [])
 
 -- the memory after a step is the memory before with those stores made
-made-at : (n : ℕ) (a : Act) (s : Cpu) (m : List ℕ)
+made-at : (n : ℕ) (a : Act) (s : Cpu) (m : Memory)
     → unlessRefused n (λ _. accepting a m) (λ k. refusing k s m) .mem ≡ made (unlessRefused n (λ _. a .stores) (λ _. [])) m
 unfolding unlessRefused
 made-at zero a s m = refl
@@ -32,7 +32,7 @@ unfolding unlessRefused
 few-at zero xs p = p
 few-at (suc n) xs p = omega arith
 
-module _ (s : Cpu) (m : List ℕ) where
+module _ (s : Cpu) (m : Memory) where
   pub step-made : stepOf s m .mem ≡ made (storesOf s m) m
   unfolding storesOf stepOf
   step-made = made-at (codeOf (stepRefusals s m)) (ruleOf s m) s m

@@ -2,11 +2,11 @@
 -- is the budget throughout, which is always enough.
 -- Assumes nothing.
 use Prim.Native.Nat.{ℕ, zero, suc, _+_, _%_, _≤_, _<_}
-use mathlib.Core.List.{List}
 use mathlib.Core.Logic.{_≢_}
 use mathlib.Core.Path.{_≡_, refl, sym, _∙_, ap}
 use native.Mathlib.Omega.{arith}
 use lib.ListN.{length}
+use Rattle.machine.specs.Memory.{Memory, memorySize}
 use Rattle.machine.specs.Answers.{With}
 use Rattle.machine.specs.Run.{runFrom, ending}
 use Rattle.machine.specs.Step.{dueStep, stepOf}
@@ -15,7 +15,7 @@ use Rattle.machine.specs.declared.Ran.{Ran}
 use Rattle.machine.proofs.Rules.{step-due}
 use Rattle.machine.proofs.Runs.{fuel, run-goes, run-over, run-refused}
 
-module _ (b spent steps : ℕ) (s : Cpu) (m : List ℕ) (long : length m ≡ 65536) (low : s .f % 16 ≡ 0) where
+module _ (b spent steps : ℕ) (s : Cpu) (m : Memory) (long : length m ≡ memorySize) (low : s .f % 16 ≡ 0) where
   pub turn-taken : spent < b → dueStep s m .out .code ≡ 0
       → runFrom b b spent steps s m ≡ runFrom b b (spent + dueStep s m .out .cycles) (steps + 1) (dueStep s m .out .cpu) (dueStep s m .mem)
   turn-taken p e =
@@ -31,5 +31,5 @@ module _ (b spent steps : ℕ) (s : Cpu) (m : List ℕ) (long : length m ≡ 655
   pub turn-refused : spent < b → dueStep s m .out .code ≢ 0 → runFrom b b spent steps s m ≡ ending (dueStep s m .out .code) spent steps s m
   turn-refused p ne = refused-at (dueStep s m .out .code) refl ne p
 
-pub turns-over : (b spent steps : ℕ) (s : Cpu) (m : List ℕ) → b ≤ spent → runFrom b b spent steps s m ≡ ending 0 spent steps s m
+pub turns-over : (b spent steps : ℕ) (s : Cpu) (m : Memory) → b ≤ spent → runFrom b b spent steps s m ≡ ending 0 spent steps s m
 turns-over b spent steps s m p = run-over b spent steps s m b p
