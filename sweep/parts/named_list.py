@@ -79,7 +79,7 @@ INSTRUCTIONS = [
     ),
     Change(
         "POP AF keeps the low bits",
-        ("machine/src/pairs.rt", "f: words::low(w) / 16 * 16,", "f: words::low(w) / 1 * 1,"),
+        ("machine/src/pairs.rt", "self.f = words::low(w) / 16 * 16;", "self.f = words::low(w) / 1 * 1;"),
     ),
     Change(
         "PUSH stores the low byte first",
@@ -112,20 +112,13 @@ INSTRUCTIONS = [
 
 CHEATS = [
     Change(
-        "a step refuses every memory",
-        (
-            RUN,
-            "    if mem.len() != 65536 {\n        return Stepped {",
-            "    if mem.len() != 0 {\n        return Stepped {",
-        ),
+        "a step and a run refuse every memory",
+        (RUN, "    if mem.len() != MEMORY_SIZE {\n        return refused(1, start);", "    if mem.len() != 0 {\n        return refused(1, start);"),
     ),
-    Change(
-        "a run refuses every memory",
-        (RUN, "    if mem.len() != 65536 {\n        return Ran {", "    if mem.len() != 0 {\n        return Ran {"),
-    ),
+    Change("a run refuses every budget but 0", (RUN, "if budget <= LARGEST_BUDGET {", "if budget <= 0 {")),
     Change("a step always says that it is done", (RUN, "code: r.code,", "code: 0,")),
     Change("an addition has a fixed answer", ("arith/src/bytes.rt", "let value = (sum % 256) as u8;", "let value = (0 % 256) as u8;")),
-    Change("memory is never touched", ("machine/src/memory.rt", "mem[at as usize] = v;", "mem[at as usize] = mem[at as usize];")),
+    Change("memory is never touched", ("machine/src/memory.rt", "mem[i] = v;", "mem[i] = mem[i];")),
     Change(
         "memory is never touched, by the definition",
         ("machine/specs/Memory.antt", "stored m at v = set m at v", "stored m at v = set m at (byteAt m at)"),
