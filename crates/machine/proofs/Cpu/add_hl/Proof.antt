@@ -5,9 +5,6 @@ use Rattle.machine.specs.State.{withHl}
 use Rattle.machine.proofs.Cpu.add_hl.Statement.{statement}
 use Rattle.machine.proofs.Cpu.add_hl.Tie as tie
 
-returns : tie.Need-returns
-unfolding addedToHlOf withHl
-returns c = simp (c .low .ensures, c .before .high .ensures, c .before .before .add-hl .ensures, c .before .before .before .pair .ensures, c .before .before .before .before .hl .ensures)
-
 pub add-hl-spec : {M : Type 1} → statement M
-add-hl-spec = tie.close (tie.spec (search needs) (search needs) (search needs) (search needs) (search needs) returns)
+unfolding addedToHlOf withHl
+add-hl-spec = tie.close (tie.spec (search needs) (search needs) (search needs) (search needs) (search needs) (λ c. simp (c .low .ensures, c .before .high .ensures, c .before .before .add-hl .ensures, c .before .before .before .pair .ensures, c .before .before .before .before .hl .ensures)))

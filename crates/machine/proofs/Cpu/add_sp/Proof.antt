@@ -4,9 +4,6 @@ use Rattle.machine.specs.Execute.{addedToSpOf}
 use Rattle.machine.proofs.Cpu.add_sp.Statement.{statement}
 use Rattle.machine.proofs.Cpu.add_sp.Tie as tie
 
-returns : tie.Need-returns
-unfolding addedToSpOf
-returns c = simp (c .add-sp .ensures)
-
 pub add-sp-spec : {M : Type 1} → statement M
-add-sp-spec = tie.close (tie.spec (search needs) returns)
+unfolding addedToSpOf
+add-sp-spec = tie.close (tie.spec (search needs) (λ c. simp (c .add-sp .ensures)))

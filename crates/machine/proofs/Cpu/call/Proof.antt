@@ -5,9 +5,6 @@ use Rattle.machine.specs.Stack.{calledOf}
 use Rattle.machine.proofs.Cpu.call.Statement.{statement}
 use Rattle.machine.proofs.Cpu.call.Tie as tie
 
-returns : tie.Need-returns
-unfolding calledOf
-returns c = simp (c .before .before .push .ensures .answers, c .before .before .before .before .with-pc .ensures, c .before .before .push .ensures .leaves) exactly
-
 pub call-spec : {M : Type 1} → statement M
-call-spec = tie.close (tie.spec (search needs) (search needs) (search needs) returns)
+unfolding calledOf
+call-spec = tie.close (tie.spec (search needs) (search needs) (search needs) (λ c. simp (c .before .before .push .ensures .answers, c .before .before .before .before .with-pc .ensures, c .before .before .push .ensures .leaves) exactly))

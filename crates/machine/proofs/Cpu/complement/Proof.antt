@@ -4,9 +4,6 @@ use Rattle.machine.specs.Execute.{complementedOf}
 use Rattle.machine.proofs.Cpu.complement.Statement.{statement}
 use Rattle.machine.proofs.Cpu.complement.Tie as tie
 
-returns : tie.Need-returns
-unfolding complementedOf
-returns c = simp (c .pack .ensures, c .before .carry .ensures, c .before .before .zero .ensures)
-
 pub complement-spec : {M : Type 1} → statement M
-complement-spec = tie.close (tie.spec (search needs) (search needs) (search needs) (search needs) returns)
+unfolding complementedOf
+complement-spec = tie.close (tie.spec (search needs) (search needs) (search needs) (search needs) (λ c. simp (c .pack .ensures, c .before .carry .ensures, c .before .before .zero .ensures)))

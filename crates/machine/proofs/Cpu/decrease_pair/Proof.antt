@@ -3,8 +3,5 @@ use borrow.Author.Needs.{needs}
 use Rattle.machine.proofs.Cpu.decrease_pair.Statement.{statement}
 use Rattle.machine.proofs.Cpu.decrease_pair.Tie as tie
 
-returns : tie.Need-returns
-returns c = simp (c .with-pair .ensures, c .before .back .ensures, c .before .before .pair .ensures)
-
 pub decrease-pair-spec : {M : Type 1} → statement M
-decrease-pair-spec = tie.close (tie.spec (search needs) (search needs) (search needs) returns)
+decrease-pair-spec = tie.close (tie.spec (search needs) (search needs) (search needs) (λ c. simp (c .with-pair .ensures, c .before .back .ensures, c .before .before .pair .ensures)))

@@ -4,9 +4,6 @@ use Rattle.machine.specs.Execute.{withCarryOf}
 use Rattle.machine.proofs.Cpu.flip_carry.Statement.{statement}
 use Rattle.machine.proofs.Cpu.flip_carry.Tie as tie
 
-returns : tie.Need-returns
-unfolding withCarryOf
-returns c = simp (c .pack .ensures, c .before .carry .ensures, c .before .before .zero .ensures)
-
 pub flip-carry-spec : {M : Type 1} → statement M
-flip-carry-spec = tie.close (tie.spec (search needs) (search needs) (search needs) returns)
+unfolding withCarryOf
+flip-carry-spec = tie.close (tie.spec (search needs) (search needs) (search needs) (λ c. simp (c .pack .ensures, c .before .carry .ensures, c .before .before .zero .ensures)))

@@ -4,9 +4,6 @@ use Rattle.machine.specs.Execute.{haltedOf}
 use Rattle.machine.proofs.Cpu.halt.Statement.{statement}
 use Rattle.machine.proofs.Cpu.halt.Tie as tie
 
-returns : tie.Need-returns
-unfolding haltedOf
-returns c = simp (c .with-mode .ensures, c .before .halt-mode .ensures, c .before .before .pending .ensures, c .before .before .before .is-off .ensures)
-
 pub halt-spec : {M : Type 1} → statement M
-halt-spec = tie.close (tie.spec (search needs) (search needs) (search needs) (search needs) returns)
+unfolding haltedOf
+halt-spec = tie.close (tie.spec (search needs) (search needs) (search needs) (search needs) (λ c. simp (c .with-mode .ensures, c .before .halt-mode .ensures, c .before .before .pending .ensures, c .before .before .before .is-off .ensures)))

@@ -4,9 +4,6 @@ use Rattle.machine.specs.State.{hlOf}
 use Rattle.machine.proofs.Cpu.hl.Statement.{statement}
 use Rattle.machine.proofs.Cpu.hl.Tie as tie
 
-returns : tie.Need-returns
-unfolding hlOf
-returns c = simp (c .word .ensures)
-
 pub hl-spec : {M : Type 1} → statement M
-hl-spec = tie.close (tie.spec (search needs) returns)
+unfolding hlOf
+hl-spec = tie.close (tie.spec (search needs) (λ c. simp (c .word .ensures)))

@@ -3,8 +3,5 @@ use borrow.Author.Needs.{needs}
 use Rattle.machine.proofs.Cpu.jump_by.Statement.{statement}
 use Rattle.machine.proofs.Cpu.jump_by.Tie as tie
 
-returns : tie.Need-returns
-returns c = simp (c .offset .ensures)
-
 pub jump-by-spec : {M : Type 1} → statement M
-jump-by-spec = tie.close (tie.spec (search needs) returns)
+jump-by-spec = tie.close (tie.spec (search needs) (λ c. simp (c .offset .ensures)))

@@ -3,8 +3,5 @@ use borrow.Author.Needs.{needs}
 use Rattle.machine.proofs.Cpu.jump_hl.Statement.{statement}
 use Rattle.machine.proofs.Cpu.jump_hl.Tie as tie
 
-returns : tie.Need-returns
-returns c = simp (c .hl .ensures)
-
 pub jump-hl-spec : {M : Type 1} → statement M
-jump-hl-spec = tie.close (tie.spec (search needs) returns)
+jump-hl-spec = tie.close (tie.spec (search needs) (λ c. simp (c .hl .ensures)))

@@ -3,8 +3,5 @@ use borrow.Author.Needs.{needs}
 use Rattle.machine.proofs.Cpu.load_at.Statement.{statement}
 use Rattle.machine.proofs.Cpu.load_at.Tie as tie
 
-returns : tie.Need-returns
-returns c = simp (c .moved .ensures, c .before .load-from .ensures, c .before .before .pointed .ensures)
-
 pub load-at-spec : {M : Type 1} → statement M
-load-at-spec = tie.close (tie.spec (search needs) (search needs) (search needs) returns)
+load-at-spec = tie.close (tie.spec (search needs) (search needs) (search needs) (λ c. simp (c .moved .ensures, c .before .load-from .ensures, c .before .before .pointed .ensures)))

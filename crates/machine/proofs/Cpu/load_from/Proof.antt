@@ -4,9 +4,6 @@ use Rattle.machine.specs.Execute.{loadedFrom}
 use Rattle.machine.proofs.Cpu.load_from.Statement.{statement}
 use Rattle.machine.proofs.Cpu.load_from.Tie as tie
 
-returns : tie.Need-returns
-unfolding loadedFrom
-returns c = simp (c .read .ensures)
-
 pub load-from-spec : {M : Type 1} → statement M
-load-from-spec = tie.close (tie.spec (search needs) returns)
+unfolding loadedFrom
+load-from-spec = tie.close (tie.spec (search needs) (λ c. simp (c .read .ensures)))

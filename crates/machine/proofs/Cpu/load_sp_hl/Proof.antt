@@ -3,8 +3,5 @@ use borrow.Author.Needs.{needs}
 use Rattle.machine.proofs.Cpu.load_sp_hl.Statement.{statement}
 use Rattle.machine.proofs.Cpu.load_sp_hl.Tie as tie
 
-returns : tie.Need-returns
-returns c = simp (c .hl .ensures)
-
 pub load-sp-hl-spec : {M : Type 1} → statement M
-load-sp-hl-spec = tie.close (tie.spec (search needs) returns)
+load-sp-hl-spec = tie.close (tie.spec (search needs) (λ c. simp (c .hl .ensures)))

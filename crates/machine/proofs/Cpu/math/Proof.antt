@@ -3,8 +3,5 @@ use borrow.Author.Needs.{needs}
 use Rattle.machine.proofs.Cpu.math.Statement.{statement}
 use Rattle.machine.proofs.Cpu.math.Tie as tie
 
-returns : tie.Need-returns
-returns c = simp (c .with-result .ensures, c .before .operate .ensures, c .before .before .value .ensures)
-
 pub math-spec : {M : Type 1} → statement M
-math-spec = tie.close (tie.spec (search needs) (search needs) (search needs) returns)
+math-spec = tie.close (tie.spec (search needs) (search needs) (search needs) (λ c. simp (c .with-result .ensures, c .before .operate .ensures, c .before .before .value .ensures)))

@@ -3,8 +3,5 @@ use borrow.Author.Needs.{needs}
 use Rattle.machine.proofs.Cpu.pop.Statement.{statement}
 use Rattle.machine.proofs.Cpu.pop.Tie as tie
 
-returns : tie.Need-returns
-returns c = simp (c .with-stacked .ensures, c .before .with-sp .ensures, c .before .before .further .ensures, c .before .before .before .read-word .ensures)
-
 pub pop-spec : {M : Type 1} → statement M
-pop-spec = tie.close (tie.spec (search needs) (search needs) (search needs) (search needs) returns)
+pop-spec = tie.close (tie.spec (search needs) (search needs) (search needs) (search needs) (λ c. simp (c .with-stacked .ensures, c .before .with-sp .ensures, c .before .before .further .ensures, c .before .before .before .read-word .ensures)))

@@ -5,9 +5,6 @@ use Rattle.machine.specs.Step.{readyOf}
 use Rattle.machine.proofs.Cpu.ready.Statement.{statement}
 use Rattle.machine.proofs.Cpu.ready.Tie as tie
 
-returns : tie.Need-returns
-unfolding readyOf
-returns c = refl
-
 pub ready-spec : {M : Type 1} → statement M
-ready-spec = tie.close (tie.spec returns)
+unfolding readyOf
+ready-spec = tie.close (tie.spec (λ c. refl))

@@ -4,9 +4,6 @@ use Rattle.machine.specs.Stack.{returnedTo}
 use Rattle.machine.proofs.Cpu.return_to.Statement.{statement}
 use Rattle.machine.proofs.Cpu.return_to.Tie as tie
 
-returns : tie.Need-returns
-unfolding returnedTo
-returns c = simp (c .further .ensures)
-
 pub return-to-spec : {M : Type 1} → statement M
-return-to-spec = tie.close (tie.spec (search needs) returns)
+unfolding returnedTo
+return-to-spec = tie.close (tie.spec (search needs) (λ c. simp (c .further .ensures)))

@@ -3,8 +3,5 @@ use borrow.Author.Needs.{needs}
 use Rattle.machine.proofs.Cpu.rotate_a.Statement.{statement}
 use Rattle.machine.proofs.Cpu.rotate_a.Tie as tie
 
-returns : tie.Need-returns
-returns c = simp (c .with-result .ensures, c .before .rotate-a .ensures, c .before .before .carry .ensures)
-
 pub rotate-a-spec : {M : Type 1} → statement M
-rotate-a-spec = tie.close (tie.spec (search needs) (search needs) (search needs) returns)
+rotate-a-spec = tie.close (tie.spec (search needs) (search needs) (search needs) (λ c. simp (c .with-result .ensures, c .before .rotate-a .ensures, c .before .before .carry .ensures)))

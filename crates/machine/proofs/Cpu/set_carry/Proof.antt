@@ -4,9 +4,6 @@ use Rattle.machine.specs.Execute.{withCarryOf}
 use Rattle.machine.proofs.Cpu.set_carry.Statement.{statement}
 use Rattle.machine.proofs.Cpu.set_carry.Tie as tie
 
-returns : tie.Need-returns
-unfolding withCarryOf
-returns c = simp (c .pack .ensures, c .before .zero .ensures)
-
 pub set-carry-spec : {M : Type 1} → statement M
-set-carry-spec = tie.close (tie.spec (search needs) (search needs) returns)
+unfolding withCarryOf
+set-carry-spec = tie.close (tie.spec (search needs) (search needs) (λ c. simp (c .pack .ensures, c .before .zero .ensures)))

@@ -5,9 +5,6 @@ use Rattle.machine.specs.Operands.{updatedOf}
 use Rattle.machine.proofs.Cpu.update.Statement.{statement}
 use Rattle.machine.proofs.Cpu.update.Tie as tie
 
-returns : tie.Need-returns
-unfolding updatedOf
-returns c = simp (c .before .before .place .ensures .answers, c .before .before .before .before .with-f .ensures, c .before .before .place .ensures .leaves) exactly
-
 pub update-spec : {M : Type 1} → statement M
-update-spec = tie.close (tie.spec (search needs) (search needs) (search needs) returns)
+unfolding updatedOf
+update-spec = tie.close (tie.spec (search needs) (search needs) (search needs) (λ c. simp (c .before .before .place .ensures .answers, c .before .before .before .before .with-f .ensures, c .before .before .place .ensures .leaves) exactly))

@@ -5,9 +5,6 @@ use Rattle.machine.specs.Interrupts.{vectoredOf}
 use Rattle.machine.proofs.Cpu.vector.Statement.{statement}
 use Rattle.machine.proofs.Cpu.vector.Tie as tie
 
-returns : tie.Need-returns
-unfolding vectoredOf
-returns c = refl
-
 pub vector-spec : {M : Type 1} → statement M
-vector-spec = tie.close (tie.spec (search needs) (search needs) returns)
+unfolding vectoredOf
+vector-spec = tie.close (tie.spec (search needs) (search needs) (λ c. refl))

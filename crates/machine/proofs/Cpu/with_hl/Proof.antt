@@ -4,9 +4,6 @@ use Rattle.machine.specs.State.{withHl}
 use Rattle.machine.proofs.Cpu.with_hl.Statement.{statement}
 use Rattle.machine.proofs.Cpu.with_hl.Tie as tie
 
-returns : tie.Need-returns
-unfolding withHl
-returns c = simp (c .low .ensures, c .before .high .ensures)
-
 pub with-hl-spec : {M : Type 1} → statement M
-with-hl-spec = tie.close (tie.spec (search needs) (search needs) returns)
+unfolding withHl
+with-hl-spec = tie.close (tie.spec (search needs) (search needs) (λ c. simp (c .low .ensures, c .before .high .ensures)))

@@ -4,9 +4,6 @@ use Rattle.machine.specs.Interrupts.{dispatchDueOf}
 use Rattle.machine.proofs.interrupts.dispatch_due.Statement.{statement}
 use Rattle.machine.proofs.interrupts.dispatch_due.Tie as tie
 
-returns : tie.Need-returns
-unfolding dispatchDueOf
-returns c = simp (c .is-on .ensures)
-
 pub dispatch-due-spec : {M : Type 1} → statement M
-dispatch-due-spec = tie.close (tie.spec (search needs) returns)
+unfolding dispatchDueOf
+dispatch-due-spec = tie.close (tie.spec (search needs) (λ c. simp (c .is-on .ensures)))

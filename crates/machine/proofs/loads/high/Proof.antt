@@ -5,9 +5,6 @@ use Rattle.machine.specs.Execute.{highAddress}
 use Rattle.machine.proofs.loads.high.Statement.{statement}
 use Rattle.machine.proofs.loads.high.Tie as tie
 
-returns : tie.Need-returns
-unfolding highAddress
-returns c = refl
-
 pub high-spec : {M : Type 1} → statement M
-high-spec = tie.close (tie.spec (search needs) returns)
+unfolding highAddress
+high-spec = tie.close (tie.spec (search needs) (λ c. refl))

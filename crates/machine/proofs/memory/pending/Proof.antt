@@ -4,9 +4,6 @@ use Rattle.machine.specs.Interrupts.{pendingOf}
 use Rattle.machine.proofs.memory.pending.Statement.{statement}
 use Rattle.machine.proofs.memory.pending.Tie as tie
 
-returns : tie.Need-returns
-unfolding pendingOf
-returns c = simp (c .read2 .ensures, c .before .read .ensures)
-
 pub pending-spec : {M : Type 1} → statement M
-pending-spec = tie.close (tie.spec (search needs) (search needs) returns)
+unfolding pendingOf
+pending-spec = tie.close (tie.spec (search needs) (search needs) (λ c. simp (c .read2 .ensures, c .before .read .ensures)))

@@ -7,13 +7,6 @@ use Rattle.machine.specs.Memory.{byteAt}
 use Rattle.machine.proofs.memory.read.Statement.{statement}
 use Rattle.machine.proofs.memory.read.Tie as tie
 
-returns : tie.Need-returns
-unfolding byteAt
-returns c = refl
-
-returns-2 : tie.Need-returns-2
-unfolding byteAt
-returns-2 c = sym (List·getD-eq-default (c .before .args .mem .now) 0 {n = c .before .args .at} (omega arith))
-
 pub read-spec : {M : Type 1} → statement M
-read-spec = tie.close (tie.spec (search needs) returns returns-2)
+unfolding byteAt
+read-spec = tie.close (tie.spec (search needs) (λ c. refl) (λ c. sym (List·getD-eq-default (c .before .args .mem .now) 0 {n = c .before .args .at} (omega arith))))

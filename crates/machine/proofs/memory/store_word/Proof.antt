@@ -4,9 +4,6 @@ use Rattle.machine.specs.Memory.{wordStores}
 use Rattle.machine.proofs.memory.store_word.Statement.{statement}
 use Rattle.machine.proofs.memory.store_word.Tie as tie
 
-returns : tie.Need-returns
-unfolding wordStores
-returns c = simp (c .before .before .store2 .ensures, c .before .before .before .high .ensures, c .before .before .before .before .further .ensures, c .before .before .before .before .before .before .before .before .store .ensures, c .before .before .before .before .before .before .before .before .before .low .ensures)
-
 pub store-word-spec : {M : Type 1} → statement M
-store-word-spec = tie.close (tie.spec (search needs) (search needs) (search needs) (search needs) (search needs) (search needs) returns)
+unfolding wordStores
+store-word-spec = tie.close (tie.spec (search needs) (search needs) (search needs) (search needs) (search needs) (search needs) (λ c. simp (c .before .before .store2 .ensures, c .before .before .before .high .ensures, c .before .before .before .before .further .ensures, c .before .before .before .before .before .before .before .before .store .ensures, c .before .before .before .before .before .before .before .before .before .low .ensures)))

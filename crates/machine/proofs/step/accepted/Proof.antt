@@ -4,8 +4,5 @@ use borrow.Author.Needs.{needs}
 use Rattle.machine.proofs.step.accepted.Statement.{statement}
 use Rattle.machine.proofs.step.accepted.Tie as tie
 
-returns : tie.Need-returns
-returns c = refl
-
 pub accepted-spec : {M : Type 1} → statement M
-accepted-spec = tie.close (tie.spec (search needs) returns)
+accepted-spec = tie.close (tie.spec (search needs) (λ c. refl))
