@@ -8,7 +8,7 @@ use mathlib.Core.Path.{_≡_, refl, _∙_, ap}
 use Rattle.insn.specs.declared.Insn.{Insn}
 use Rattle.insn.specs.declared.Insn.the-variants.{Nop, StoreSp, Stop, Jr, JrIf, LoadPair, AddHl, StoreAt, LoadAt, IncPair, DecPair, Inc, Dec, Load, RotateA, Daa, Cpl, Scf, Ccf, Halt, Math, RetIf, StoreHigh, AddSp, LoadHigh, LoadHlSp, Pop, Ret, Reti, JumpHl, LoadSpHl, JumpIf, StoreHighC, StoreTo, LoadHighC, LoadFrom, Jump, Rotate, Bit, Res, Set, Di, Ei, CallIf, Push, Call, Rst, Undefined}
 use Rattle.machine.specs.Answers.{Storing, storing}
-use Rattle.machine.specs.State.{withSp, withIme, hlOf, withHl}
+use Rattle.machine.specs.State.{withSp, withPc, withIme, hlOf, withHl}
 use Rattle.machine.specs.Stack.{pushedOf, returnedTo, calledOf}
 use Rattle.machine.specs.Execute.{execOf, resultOf, addedToHlOf, addedToSpOf, hlFromSpOf, storedTo, storedAtOf, loadedFrom, complementedOf, withCarryOf, haltedOf}
 use Rattle.machine.specs.Memory.{Memory, wordStores}
@@ -20,7 +20,7 @@ use Rattle.machine.specs.declared.Ime.the-variants.{Off, Arming, On}
 use Rattle.machine.specs.declared.Cpu.{Cpu}
 use Rattle.machine.specs.declared.Done.{Done}
 use Rattle.machine.proofs.Rules.{step-insn}
-use Rattle.machine.proofs.Fields.{imed, value-read, held-read, pair-read, stacked-read, pointed-read, placed-left, updated-left, pair-left, stacked-left, moved-left, jumped-left, called-left, returned-left}
+use Rattle.machine.proofs.Fields.{imed, value-read, held-read, pair-read, stacked-read, pointed-read, placed-left, updated-left, pair-left, stacked-left, moved-left, taken-left}
 
 -- what the instruction i has to do with IME: three set it; every other leaves it, and does the same from an IME u, where HALT asks
 -- that both or neither be Off
@@ -38,7 +38,7 @@ exec-uses Nop s m = leaves (λ _ _. refl)
 exec-uses (StoreSp w) s m = leaves (λ _ _. refl)
 exec-uses Stop s m = leaves (λ _ _. refl)
 exec-uses (Jr e) s m = leaves (λ _ _. refl)
-exec-uses (JrIf cc e) s m = leaves (λ _ _. rw jumped-left)
+exec-uses (JrIf cc e) s m = leaves (λ u _. rw (taken-left u s _ _ (withPc _ s)))
 exec-uses (LoadPair w rp) s m = leaves (λ _ _. rw pair-left)
 exec-uses (AddHl rp) s m = leaves (λ _ _. rw pair-read)
 exec-uses (StoreAt q) s m = leaves (λ _ _. rw (pointed-read, moved-left))
@@ -55,7 +55,7 @@ exec-uses Scf s m = leaves (λ _ _. refl)
 exec-uses Ccf s m = leaves (λ _ _. refl)
 exec-uses Halt s m = leaves (λ _ e. rw e)
 exec-uses (Math op o) s m = leaves (λ _ _. rw value-read)
-exec-uses (RetIf cc) s m = leaves (λ _ _. rw returned-left)
+exec-uses (RetIf cc) s m = leaves (λ u _. rw (taken-left u s _ _ (returnedTo _ s)))
 exec-uses (StoreHigh n) s m = leaves (λ _ _. refl)
 exec-uses (AddSp e) s m = leaves (λ _ _. refl)
 exec-uses (LoadHigh n) s m = leaves (λ _ _. refl)
@@ -65,7 +65,7 @@ exec-uses Ret s m = leaves (λ _ _. refl)
 exec-uses Reti s m = is-reti refl
 exec-uses JumpHl s m = leaves (λ _ _. refl)
 exec-uses LoadSpHl s m = leaves (λ _ _. refl)
-exec-uses (JumpIf cc w) s m = leaves (λ _ _. rw jumped-left)
+exec-uses (JumpIf cc w) s m = leaves (λ u _. rw (taken-left u s _ _ (withPc w s)))
 exec-uses StoreHighC s m = leaves (λ _ _. refl)
 exec-uses (StoreTo w) s m = leaves (λ _ _. refl)
 exec-uses LoadHighC s m = leaves (λ _ _. refl)
@@ -77,7 +77,7 @@ exec-uses (Res k p) s m = leaves (λ _ _. rw (held-read, placed-left))
 exec-uses (Set k p) s m = leaves (λ _ _. rw (held-read, placed-left))
 exec-uses Di s m = is-di refl
 exec-uses Ei s m = is-ei refl
-exec-uses (CallIf cc w) s m = leaves (λ _ _. rw called-left)
+exec-uses (CallIf cc w) s m = leaves (λ u _. rw (taken-left u s _ _ (calledOf w s .out)))
 exec-uses (Push rp) s m = leaves (λ _ _. rw stacked-read)
 exec-uses (Call w) s m = leaves (λ _ _. refl)
 exec-uses (Rst v) s m = leaves (λ _ _. refl)

@@ -38,13 +38,13 @@ use Rattle.machine.specs.Answers.{With, Storing, storing, storeless}
 use Rattle.machine.specs.Memory.{Memory, byteAt, wordAt, Store, store, wordStores, stored, made}
 use Rattle.machine.specs.Stack.{pushedOf, returnedTo, calledOf}
 use Rattle.machine.specs.Operands.{valueOf, heldOf, placedOf, updatedOf, movedOf}
-use Rattle.machine.specs.Execute.{done, plainly, execOf, resultOf, addedToHlOf, addedToSpOf, hlFromSpOf, jumpedIf, calledIf, returnedIf, storedTo, storedAtOf, loadedFrom, complementedOf, withCarryOf, haltedOf}
+use Rattle.machine.specs.Execute.{done, plainly, execOf, resultOf, addedToHlOf, addedToSpOf, hlFromSpOf, takenIf, storesIf, storedTo, storedAtOf, loadedFrom, complementedOf, withCarryOf, haltedOf}
 use Rattle.machine.specs.Interrupts.{pendingOf, lowestSet, lowestOf, vectoredOf, dispatchOf}
 use Rattle.machine.specs.Step.{act, accepting, nextRest, nextInsn, nextAfter, readyOf, endOf, instructionAct, ruleOf, stepRefusals, stepOf}
 use Rattle.machine.specs.declared.Cpu.{Cpu}
 use Rattle.machine.specs.declared.Done.{Done}
 use Rattle.machine.specs.declared.Stepped.{Stepped}
-use Rattle.machine.proofs.Fields.{pair-same, moved-same, placed-same, updated-same, jumped-same, called-same, returned-same}
+use Rattle.machine.proofs.Fields.{by-place, pair-same, moved-same, placed-same, updated-same, taken-same}
 use Rattle.machine.proofs.Sound.{Sound, Bytes}
 use Rattle.machine.proofs.ReadOverWrite.{stored-same, stored-other, stored-out}
 use Rattle.machine.proofs.Rules.{by-outcome, by-rules}
@@ -120,15 +120,7 @@ moved-sound pointer.Hli s h = hl-sound _ s h
 moved-sound pointer.Hld s h = hl-sound _ s h
 
 placed-sound : (q : Place) (v : ℕ) (s : Cpu) → v < 256 → Sound s → Sound (placedOf q v s .out)
-unfolding placedOf
-placed-sound place.B v s p h = reg-sound reg.B v s p h
-placed-sound place.C v s p h = reg-sound reg.C v s p h
-placed-sound place.D v s p h = reg-sound reg.D v s p h
-placed-sound place.E v s p h = reg-sound reg.E v s p h
-placed-sound place.H v s p h = reg-sound reg.H v s p h
-placed-sound place.L v s p h = reg-sound reg.L v s p h
-placed-sound place.AtHl v s p h = h
-placed-sound place.A v s p h = reg-sound reg.A v s p h
+placed-sound q v s p h = by-place (λ w. Sound (w .out)) v s (λ r. reg-sound r v s p h) h q
 
 updated-sound : (q : Place) (r : Byte) (s : Cpu) → ByteFits r → Sound s → Sound (updatedOf q r s .out)
 unfolding updatedOf
@@ -142,20 +134,10 @@ loaded-sound : (at : ℕ) (s : Cpu) (m : Memory) → Sound s → Bytes m → Sou
 unfolding loadedFrom
 loaded-sound at s m h b = omega (arith, b at)
 
-jumped-sound : (k : ℕ) (t : Bool) (to : ℕ) (s : Cpu) → to < 65536 → Sound s → Sound (jumpedIf k t to s .cpu)
-unfolding jumpedIf
-jumped-sound k true to s p h = omega arith
-jumped-sound k false to s p h = h
-
-called-sound : (k : ℕ) (t : Bool) (to : ℕ) (s : Cpu) → to < 65536 → Sound s → Sound (calledIf k t to s .out .cpu)
-unfolding calledIf calledOf pushedOf
-called-sound k true to s p h = omega (arith, back-below 2 (s .sp))
-called-sound k false to s p h = h
-
-returned-sound : (k : ℕ) (t : Bool) (to : ℕ) (s : Cpu) → to < 65536 → Sound s → Sound (returnedIf k t to s .cpu)
-unfolding returnedIf returnedTo
-returned-sound k true to s p h = omega (arith, further-below 2 (s .sp))
-returned-sound k false to s p h = h
+taken-sound : (t : Bool) (k : ℕ) (next s : Cpu) → Sound next → Sound s → Sound (takenIf t k next s .cpu)
+unfolding takenIf
+taken-sound true k next s n h = n
+taken-sound false k next s n h = h
 
 -- what is stored
 
@@ -196,21 +178,13 @@ module _ {i : Insn} {s : Cpu} {m : Memory} where
   unfolding pushedOf
   push-stores w t = two (high-below w) (low-below w)
 
-  call-stores : (k : ℕ) (t : Bool) (to : ℕ) (s′ : Cpu) → Stored i s m (calledIf k t to s′ .stores)
-  unfolding calledIf calledOf
-  call-stores k true to s′ = push-stores _ _
-  call-stores k false to s′ = none
+  if-stores : (t : Bool) {xs : List Store} → Stored i s m xs → Stored i s m (storesIf t xs)
+  unfolding storesIf
+  if-stores true p = p
+  if-stores false p = none
 
   place-stores : (q : Place) (v : ℕ) (t : Cpu) → (SoundInsn i → Sound s → Bytes m → v < 256) → Stored i s m (placedOf q v t .stores)
-  unfolding placedOf
-  place-stores place.B v t p = none
-  place-stores place.C v t p = none
-  place-stores place.D v t p = none
-  place-stores place.E v t p = none
-  place-stores place.H v t p = none
-  place-stores place.L v t p = none
-  place-stores place.AtHl v t p = one p
-  place-stores place.A v t p = none
+  place-stores q v t p = by-place (λ w. Stored i s m (w .stores)) v t (λ r. none) (one p) q
 
 -- the low four bits of F
 
@@ -237,20 +211,10 @@ stacked-low stacked.Af w s p = omega arith
 
 -- what a taken branch costs more
 
-jumped-most : (k : ℕ) (t : Bool) (to : ℕ) (s : Cpu) → jumpedIf k t to s .extra ≤ k
-unfolding jumpedIf
-jumped-most k true to s = omega arith
-jumped-most k false to s = omega arith
-
-called-most : (k : ℕ) (t : Bool) (to : ℕ) (s : Cpu) → calledIf k t to s .out .extra ≤ k
-unfolding calledIf
-called-most k true to s = omega arith
-called-most k false to s = omega arith
-
-returned-most : (k : ℕ) (t : Bool) (to : ℕ) (s : Cpu) → returnedIf k t to s .extra ≤ k
-unfolding returnedIf
-returned-most k true to s = omega arith
-returned-most k false to s = omega arith
+taken-most : (t : Bool) (k : ℕ) (next s : Cpu) → takenIf t k next s .extra ≤ k
+unfolding takenIf
+taken-most true k next s = omega arith
+taken-most false k next s = omega arith
 
 -- what an instruction makes of the state: valid flags stay valid, and what is sound stays sound
 pub record Changed (i : Insn) (s : Cpu) (m : Memory) (t : Cpu) : Type 0 where
@@ -280,30 +244,13 @@ module _ {i : Insn} {s : Cpu} {m : Memory} where
   does : {t : Cpu} {xs : List Store} → Changed i s m t → Stored i s m xs → Executed i s m (storing (done t) xs)
   does p x = record { extra = omega arith; state = p; stores = x }
 
-  jumps : {to : ℕ} (t : Bool) → (SoundInsn i → Sound s → Bytes m → to < 65536)
-      → Executed i s m (storeless (jumpedIf (shapeOf i .taken) t to s))
-  jumps t p =
+  branches : (t : Bool) {next : Cpu} {xs : List Store} → next .f ≡ s .f → (SoundInsn i → Sound s → Bytes m → Sound next)
+      → Stored i s m xs → Executed i s m (storing (takenIf t (shapeOf i .taken) next s) xs)
+  branches t e p x =
       record {
-        extra = jumped-most _ t _ s;
-        state = same (jumped-same _ t _ s) (λ i h b. jumped-sound _ t _ s (p i h b) h);
-        stores = none;
-      }
-
-  returns-to : {to : ℕ} (t : Bool) → (SoundInsn i → Sound s → Bytes m → to < 65536)
-      → Executed i s m (storeless (returnedIf (shapeOf i .taken) t to s))
-  returns-to t p =
-      record {
-        extra = returned-most _ t _ s;
-        state = same (returned-same _ t _ s) (λ i h b. returned-sound _ t _ s (p i h b) h);
-        stores = none;
-      }
-
-  calls : {to : ℕ} (t : Bool) → (SoundInsn i → Sound s → Bytes m → to < 65536) → Executed i s m (calledIf (shapeOf i .taken) t to s)
-  calls t p =
-      record {
-        extra = called-most _ t _ s;
-        state = same (called-same _ t _ s) (λ i h b. called-sound _ t _ s (p i h b) h);
-        stores = call-stores _ t _ s;
+        extra = taken-most t _ _ _;
+        state = same (taken-same t _ _ s e) (λ i h b. taken-sound t _ _ s (p i h b) h);
+        stores = x;
       }
 
 -- every instruction
@@ -313,7 +260,7 @@ executed Nop s m = plain kept
 executed (StoreSp w) s m = does kept (two (low-below (s .sp)) (high-below (s .sp)))
 executed Stop s m = plain (same refl (λ i h b. omega arith))
 executed (Jr e) s m = plain (same refl (λ i h b. omega (arith, offset-below e (s .pc))))
-executed (JrIf cc e) s m = jumps _ (λ i h b. offset-below e (s .pc))
+executed (JrIf cc e) s m = branches _ refl (λ i h b. omega (arith, offset-below e (s .pc))) none
 executed (LoadPair w rp) s m = plain (same (pair-same rp _ _) (λ i h b. pair-sound rp w s i h))
 executed (AddHl rp) s m = plain (new (added-hl-fits _ _ _ .flags-low) (λ i h b. hl-sound _ _ (flags-sound _ s (added-hl-fits _ _ _ .flags-below) h)))
 executed (StoreAt p) s m = does (same (moved-same p _) (λ i h b. moved-sound p s h)) (one (λ _ h _. h .a))
@@ -330,7 +277,7 @@ executed Scf s m = plain (new (flags-low _ _ _ _) (λ i h b. flags-sound _ s (fl
 executed Ccf s m = plain (new (flags-low _ _ _ _) (λ i h b. flags-sound _ s (flags-below _ _ _ _) h))
 executed Halt s m = plain (same refl (λ i h b. omega arith))
 executed (Math op o) s m = plain (new (alu-low op _ _ _) (λ i h b. result-sound _ s (alu-fits op (s .a) _ (s .f) (h .a) (value-below o s m i h b)) h))
-executed (RetIf cc) s m = returns-to _ (λ i h b. word-at-below m (s .sp) b)
+executed (RetIf cc) s m = branches _ refl (λ i h b. omega (arith, further-below 2 (s .sp), word-at-below m (s .sp) b)) none
 executed (StoreHigh n) s m = does kept (one (λ _ h _. h .a))
 executed (AddSp e) s m = plain (new (added-sp-fits _ _ .flags-low) (λ i h b. let r = added-sp-fits (s .sp) e in omega (arith, r .flags-below, r .value-below)))
 executed (LoadHigh n) s m = plain (same refl (λ i h b. loaded-sound _ s m h b))
@@ -340,7 +287,7 @@ executed Ret s m = plain (same refl (λ i h b. omega (arith, further-below 2 (s 
 executed Reti s m = plain (same refl (λ i h b. omega (arith, further-below 2 (s .sp), word-at-below m (s .sp) b)))
 executed JumpHl s m = plain (same refl (λ i h b. omega (arith, hl-below s h)))
 executed LoadSpHl s m = plain (same refl (λ i h b. omega (arith, hl-below s h)))
-executed (JumpIf cc w) s m = jumps _ (λ i h b. i)
+executed (JumpIf cc w) s m = branches _ refl (λ i h b. omega (arith, i)) none
 executed StoreHighC s m = does kept (one (λ _ h _. h .a))
 executed (StoreTo w) s m = does kept (one (λ _ h _. h .a))
 executed LoadHighC s m = plain (same refl (λ i h b. loaded-sound _ s m h b))
@@ -352,7 +299,7 @@ executed (Res k q) s m = does (same (placed-same _ _ _) (λ i h b. placed-sound 
 executed (Set k q) s m = does (same (placed-same _ _ _) (λ i h b. placed-sound q _ s (set-below k _ (held-below q s m h b)) h)) (place-stores q _ _ (λ i h b. set-below k _ (held-below q s m h b)))
 executed Di s m = plain (same refl (λ i h b. omega arith))
 executed Ei s m = plain (same refl (λ i h b. omega arith))
-executed (CallIf cc w) s m = calls _ (λ i h b. i)
+executed (CallIf cc w) s m = branches _ refl (λ i h b. omega (arith, back-below 2 (s .sp), i)) (if-stores _ (push-stores _ s))
 executed (Push rp) s m = does (same refl (λ i h b. omega (arith, back-below 2 (s .sp)))) (push-stores _ s)
 executed (Call w) s m = does (same refl (λ i h b. omega (arith, back-below 2 (s .sp), i))) (push-stores _ s)
 executed (Rst v) s m = does (same refl (λ i h b. omega (arith, back-below 2 (s .sp), i))) (push-stores _ s)

@@ -1,9 +1,10 @@
--- The parts of the instructions: those that do not set F leave it; from another IME they read the same, and what they make differs
--- in IME alone.
+-- The parts of the instructions: from another F and another IME they read the same, and what they make differs in these two alone. So
+-- those that do not set F leave it.
 -- Assumes nothing.
 use Prim.Native.Nat.{ℕ}
+use mathlib.Core.List.{[], _∷_}
 use mathlib.Core.Bool.{Bool, true, false}
-use mathlib.Core.Path.{_≡_, refl}
+use mathlib.Core.Path.{_≡_, refl, ap}
 use Rattle.arith.specs.declared.Byte.{Byte}
 use Rattle.insn.specs.Grid.{operandOf}
 use Rattle.insn.specs.declared.Register.{Register}
@@ -18,81 +19,38 @@ use Rattle.insn.specs.declared.Stacked.{Stacked}
 use Rattle.insn.specs.declared.Stacked.the-variants as stacked
 use Rattle.insn.specs.declared.Pointer.{Pointer}
 use Rattle.insn.specs.declared.Pointer.the-variants as pointer
-use Rattle.machine.specs.Memory.{Memory}
-use Rattle.machine.specs.Answers.{storing}
+use Rattle.machine.specs.Memory.{Memory, store}
+use Rattle.machine.specs.Answers.{Storing, storing, storeless}
 use Rattle.machine.specs.State.{withF, withIme, registerOf, withRegister, hlOf, withHl, pairOf, withPair, stackedOf, withStacked}
-use Rattle.machine.specs.Stack.{pushedOf, returnedTo, calledOf}
 use Rattle.machine.specs.Operands.{valueOf, heldOf, placedOf, updatedOf, pointedOf, movedOf}
-use Rattle.machine.specs.Execute.{jumpedIf, calledIf, returnedIf}
+use Rattle.machine.specs.Execute.{takenIf}
 use Rattle.machine.specs.declared.Ime.{Ime}
 use Rattle.machine.specs.declared.Cpu.{Cpu}
 use Rattle.machine.specs.declared.Done.{Done}
 
--- F
+-- a byte put into a place is put into a register, or stored at HL
+module _ (P : Storing Cpu → Type 0) (v : ℕ) (s : Cpu) (set : (r : Register) → P (storeless (withRegister r v s)))
+    (at-hl : P (storing s (store (hlOf s) v ∷ []))) where
+  pub by-place : (p : Place) → P (placedOf p v s)
+  unfolding placedOf
+  by-place place.B = set reg.B
+  by-place place.C = set reg.C
+  by-place place.D = set reg.D
+  by-place place.E = set reg.E
+  by-place place.H = set reg.H
+  by-place place.L = set reg.L
+  by-place place.AtHl = at-hl
+  by-place place.A = set reg.A
 
-pub reg-same : (r : Register) (v : ℕ) (s : Cpu) → withRegister r v s .f ≡ s .f
-unfolding withRegister
-reg-same reg.B v s = refl
-reg-same reg.C v s = refl
-reg-same reg.D v s = refl
-reg-same reg.E v s = refl
-reg-same reg.H v s = refl
-reg-same reg.L v s = refl
-reg-same reg.A v s = refl
+-- a state with another F and another IME, and what is done with one
+abbrev other : ℕ → Ime → Cpu → Cpu
+other f u s = withF f (withIme u s)
 
-pub pair-same : (rp : Pair) (w : ℕ) (s : Cpu) → withPair rp w s .f ≡ s .f
-unfolding withPair withHl
-pair-same pair.Bc w s = refl
-pair-same pair.De w s = refl
-pair-same pair.Hl w s = refl
-pair-same pair.Sp w s = refl
-
-pub moved-same : (p : Pointer) (s : Cpu) → movedOf p s .f ≡ s .f
-unfolding movedOf withHl
-moved-same pointer.Bc s = refl
-moved-same pointer.De s = refl
-moved-same pointer.Hli s = refl
-moved-same pointer.Hld s = refl
-
-pub placed-same : (p : Place) (v : ℕ) (s : Cpu) → placedOf p v s .out .f ≡ s .f
-unfolding placedOf
-placed-same place.B v s = reg-same reg.B v s
-placed-same place.C v s = reg-same reg.C v s
-placed-same place.D v s = reg-same reg.D v s
-placed-same place.E v s = reg-same reg.E v s
-placed-same place.H v s = reg-same reg.H v s
-placed-same place.L v s = reg-same reg.L v s
-placed-same place.AtHl v s = refl
-placed-same place.A v s = reg-same reg.A v s
-
--- a result put back has its own F
-pub updated-same : (p : Place) (b : Byte) (s : Cpu) → updatedOf p b s .out .f ≡ b .flags
-unfolding updatedOf
-updated-same p b s = placed-same p (b .value) (withF (b .flags) s)
-
-pub jumped-same : (k : ℕ) (t : Bool) (to : ℕ) (s : Cpu) → jumpedIf k t to s .cpu .f ≡ s .f
-unfolding jumpedIf
-jumped-same k true to s = refl
-jumped-same k false to s = refl
-
-pub called-same : (k : ℕ) (t : Bool) (to : ℕ) (s : Cpu) → calledIf k t to s .out .cpu .f ≡ s .f
-unfolding calledIf calledOf pushedOf
-called-same k true to s = refl
-called-same k false to s = refl
-
-pub returned-same : (k : ℕ) (t : Bool) (to : ℕ) (s : Cpu) → returnedIf k t to s .cpu .f ≡ s .f
-unfolding returnedIf returnedTo
-returned-same k true to s = refl
-returned-same k false to s = refl
-
--- IME
-
--- what is done, with another
 abbrev pub imed : Ime → Done → Done
 imed u d = record { cpu = withIme u (d .cpu); extra = d .extra }
 
-module _ (u : Ime) (s : Cpu) where
-  reg-read : (r : Register) → registerOf r (withIme u s) ≡ registerOf r s
+module _ (f : ℕ) (u : Ime) (s : Cpu) where
+  reg-read : (r : Register) → registerOf r (other f u s) ≡ registerOf r s
   unfolding registerOf
   reg-read reg.B = refl
   reg-read reg.C = refl
@@ -102,9 +60,69 @@ module _ (u : Ime) (s : Cpu) where
   reg-read reg.L = refl
   reg-read reg.A = refl
 
+  reg-other : (r : Register) (v : ℕ) → withRegister r v (other f u s) ≡ other f u (withRegister r v s)
+  unfolding withRegister
+  reg-other reg.B v = refl
+  reg-other reg.C v = refl
+  reg-other reg.D v = refl
+  reg-other reg.E v = refl
+  reg-other reg.H v = refl
+  reg-other reg.L v = refl
+  reg-other reg.A v = refl
+
+  placed-other : (p : Place) (v : ℕ)
+      → placedOf p v (other f u s) ≡ storing (other f u (placedOf p v s .out)) (placedOf p v s .stores)
+  unfolding placedOf hlOf
+  placed-other place.B v = rw reg-other
+  placed-other place.C v = rw reg-other
+  placed-other place.D v = rw reg-other
+  placed-other place.E v = rw reg-other
+  placed-other place.H v = rw reg-other
+  placed-other place.L v = rw reg-other
+  placed-other place.AtHl v = refl
+  placed-other place.A v = rw reg-other
+
+  pair-other : (rp : Pair) (w : ℕ) → withPair rp w (other f u s) ≡ other f u (withPair rp w s)
+  unfolding withPair withHl
+  pair-other pair.Bc w = refl
+  pair-other pair.De w = refl
+  pair-other pair.Hl w = refl
+  pair-other pair.Sp w = refl
+
+  moved-other : (p : Pointer) → movedOf p (other f u s) ≡ other f u (movedOf p s)
+  unfolding movedOf withHl hlOf
+  moved-other pointer.Bc = refl
+  moved-other pointer.De = refl
+  moved-other pointer.Hli = refl
+  moved-other pointer.Hld = refl
+
+-- F
+
+pub pair-same : (rp : Pair) (w : ℕ) (s : Cpu) → withPair rp w s .f ≡ s .f
+pair-same rp w s = ap (λ (t : Cpu). t .f) (pair-other (s .f) (s .ime) s rp w)
+
+pub moved-same : (p : Pointer) (s : Cpu) → movedOf p s .f ≡ s .f
+moved-same p s = ap (λ (t : Cpu). t .f) (moved-other (s .f) (s .ime) s p)
+
+pub placed-same : (p : Place) (v : ℕ) (s : Cpu) → placedOf p v s .out .f ≡ s .f
+placed-same p v s = ap (λ (w : Storing Cpu). w .out .f) (placed-other (s .f) (s .ime) s p v)
+
+-- a result put back has its own F
+pub updated-same : (p : Place) (b : Byte) (s : Cpu) → updatedOf p b s .out .f ≡ b .flags
+unfolding updatedOf
+updated-same p b s = placed-same p (b .value) (withF (b .flags) s)
+
+pub taken-same : (t : Bool) (k : ℕ) (next s : Cpu) → next .f ≡ s .f → takenIf t k next s .cpu .f ≡ s .f
+unfolding takenIf
+taken-same true k next s e = e
+taken-same false k next s e = refl
+
+-- IME
+
+module _ (u : Ime) (s : Cpu) where
   pub value-read : (o : Operand) (m : Memory) → valueOf o (withIme u s) m ≡ valueOf o s m
   unfolding valueOf hlOf
-  value-read (Reg r) m = reg-read r
+  value-read (Reg r) m = reg-read (s .f) u s r
   value-read AtHl m = refl
   value-read (Const v) m = refl
 
@@ -133,34 +151,12 @@ module _ (u : Ime) (s : Cpu) where
   pointed-read pointer.Hli = refl
   pointed-read pointer.Hld = refl
 
-  reg-left : (r : Register) (v : ℕ) → withRegister r v (withIme u s) ≡ withIme u (withRegister r v s)
-  unfolding withRegister
-  reg-left reg.B v = refl
-  reg-left reg.C v = refl
-  reg-left reg.D v = refl
-  reg-left reg.E v = refl
-  reg-left reg.H v = refl
-  reg-left reg.L v = refl
-  reg-left reg.A v = refl
-
   pub placed-left : (p : Place) (v : ℕ)
       → placedOf p v (withIme u s) ≡ storing (withIme u (placedOf p v s .out)) (placedOf p v s .stores)
-  unfolding placedOf hlOf
-  placed-left place.B v = rw reg-left
-  placed-left place.C v = rw reg-left
-  placed-left place.D v = rw reg-left
-  placed-left place.E v = rw reg-left
-  placed-left place.H v = rw reg-left
-  placed-left place.L v = rw reg-left
-  placed-left place.AtHl v = refl
-  placed-left place.A v = rw reg-left
+  placed-left p v = rw (placed-other (s .f) u s p v, placed-same p v s)
 
   pub pair-left : (rp : Pair) (w : ℕ) → withPair rp w (withIme u s) ≡ withIme u (withPair rp w s)
-  unfolding withPair withHl
-  pair-left pair.Bc w = refl
-  pair-left pair.De w = refl
-  pair-left pair.Hl w = refl
-  pair-left pair.Sp w = refl
+  pair-left rp w = rw (pair-other (s .f) u s rp w, pair-same rp w s)
 
   pub stacked-left : (rp : Stacked) (w : ℕ) → withStacked rp w (withIme u s) ≡ withIme u (withStacked rp w s)
   unfolding withStacked withHl
@@ -170,27 +166,12 @@ module _ (u : Ime) (s : Cpu) where
   stacked-left stacked.Af w = refl
 
   pub moved-left : (p : Pointer) → movedOf p (withIme u s) ≡ withIme u (movedOf p s)
-  unfolding movedOf withHl hlOf
-  moved-left pointer.Bc = refl
-  moved-left pointer.De = refl
-  moved-left pointer.Hli = refl
-  moved-left pointer.Hld = refl
+  moved-left p = rw (moved-other (s .f) u s p, moved-same p s)
 
-  pub jumped-left : (k : ℕ) (t : Bool) (to : ℕ) → jumpedIf k t to (withIme u s) ≡ imed u (jumpedIf k t to s)
-  unfolding jumpedIf
-  jumped-left k true to = refl
-  jumped-left k false to = refl
-
-  pub called-left : (k : ℕ) (t : Bool) (to : ℕ)
-      → calledIf k t to (withIme u s) ≡ storing (imed u (calledIf k t to s .out)) (calledIf k t to s .stores)
-  unfolding calledIf calledOf pushedOf
-  called-left k true to = refl
-  called-left k false to = refl
-
-  pub returned-left : (k : ℕ) (t : Bool) (to : ℕ) → returnedIf k t to (withIme u s) ≡ imed u (returnedIf k t to s)
-  unfolding returnedIf returnedTo
-  returned-left k true to = refl
-  returned-left k false to = refl
+  pub taken-left : (t : Bool) (k : ℕ) (next : Cpu) → takenIf t k (withIme u next) (withIme u s) ≡ imed u (takenIf t k next s)
+  unfolding takenIf
+  taken-left true k next = refl
+  taken-left false k next = refl
 
 pub updated-left : (u : Ime) (s : Cpu) (p : Place) (b : Byte)
     → updatedOf p b (withIme u s) ≡ storing (withIme u (updatedOf p b s .out)) (updatedOf p b s .stores)

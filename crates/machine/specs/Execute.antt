@@ -3,7 +3,7 @@
 -- Assumes nothing.
 use Prim.Native.Nat.{ℕ, _+_, _-_}
 use mathlib.Core.Bool.{Bool, true, false, not, _&&_}
-use mathlib.Core.List.{[], _∷_}
+use mathlib.Core.List.{List, [], _∷_}
 use lib.Dec.{eqb}
 use Rattle.arith.specs.Flags.{flagsOf, zOf, cOf}
 use Rattle.arith.specs.Bytes.{aluOf, increasedOf, decreasedOf, resetOf, setOf, testedOf}
@@ -17,7 +17,7 @@ use Rattle.insn.specs.Grid.{operandOf}
 use Rattle.insn.specs.Shapes.{shapeOf}
 use Rattle.insn.specs.declared.Insn.{Insn}
 use Rattle.insn.specs.declared.Insn.the-variants.{Nop, StoreSp, Stop, Jr, JrIf, LoadPair, AddHl, StoreAt, LoadAt, IncPair, DecPair, Inc, Dec, Load, RotateA, Daa, Cpl, Scf, Ccf, Halt, Math, RetIf, StoreHigh, AddSp, LoadHigh, LoadHlSp, Pop, Ret, Reti, JumpHl, LoadSpHl, JumpIf, StoreHighC, StoreTo, LoadHighC, LoadFrom, Jump, Rotate, Bit, Res, Set, Di, Ei, CallIf, Push, Call, Rst, Undefined}
-use Rattle.machine.specs.Memory.{Memory, byteAt, wordAt, store, wordStores}
+use Rattle.machine.specs.Memory.{Memory, byteAt, wordAt, Store, store, wordStores}
 use Rattle.machine.specs.Answers.{Storing, storing, storeless}
 use Rattle.machine.specs.State.{withF, withAAndF, withSp, withPc, withIme, withMode, registerOf, withRegister, hlOf, withHl, pairOf, withPair, stackedOf, withStacked, metOf}
 use Rattle.machine.specs.Modes.{isOff, armedOf}
@@ -55,18 +55,15 @@ addedToSpOf e s = withSp (addedSpOf (s .sp) e .value) (withF (addedSpOf (s .sp) 
 unfoldable pub hlFromSpOf : ℕ → Cpu → Cpu
 hlFromSpOf e s = withHl (addedSpOf (s .sp) e .value) (withF (addedSpOf (s .sp) e .flags) s)
 
--- conditional jumps, calls and returns: a taken one costs k cycles more
-unfoldable pub jumpedIf : ℕ → Bool → ℕ → Cpu → Done
-jumpedIf k true to s = record { cpu = withPc to s; extra = k }
-jumpedIf k false to s = done s
+-- conditional jumps, calls and returns: a taken one goes on to the next state given and costs k cycles more, any other stays; and a
+-- call that is not taken stores nothing
+unfoldable pub takenIf : Bool → ℕ → Cpu → Cpu → Done
+takenIf true k next s = record { cpu = next; extra = k }
+takenIf false k next s = done s
 
-unfoldable pub calledIf : ℕ → Bool → ℕ → Cpu → Storing Done
-calledIf k true to s = storing (record { cpu = calledOf to s .out; extra = k }) (calledOf to s .stores)
-calledIf k false to s = plainly s
-
-unfoldable pub returnedIf : ℕ → Bool → ℕ → Cpu → Done
-returnedIf k true to s = record { cpu = returnedTo to s; extra = k }
-returnedIf k false to s = done s
+unfoldable pub storesIf : Bool → List Store → List Store
+storesIf true xs = xs
+storesIf false xs = []
 
 -- A stored at an address, and loaded from one
 unfoldable pub storedTo : ℕ → Cpu → Storing Cpu
@@ -105,7 +102,7 @@ execOf Nop s m = plainly s
 execOf (StoreSp w) s m = doing (storing s (wordStores w (s .sp)))
 execOf Stop s m = plainly (withMode Stopped s)
 execOf (Jr e) s m = plainly (withPc (offsetOf e (s .pc)) s)
-execOf (JrIf cc e) s m = storeless (jumpedIf (shapeOf (JrIf cc e) .taken) (metOf cc (s .f)) (offsetOf e (s .pc)) s)
+execOf (JrIf cc e) s m = storeless (takenIf (metOf cc (s .f)) (shapeOf (JrIf cc e) .taken) (withPc (offsetOf e (s .pc)) s) s)
 execOf (LoadPair w rp) s m = plainly (withPair rp w s)
 execOf (AddHl rp) s m = plainly (addedToHlOf rp s)
 execOf (StoreAt p) s m = doing (storedAtOf p s)
@@ -122,7 +119,7 @@ execOf Scf s m = plainly (withCarryOf true s)
 execOf Ccf s m = plainly (withCarryOf (not (cOf (s .f))) s)
 execOf Halt s m = plainly (haltedOf s m)
 execOf (Math op o) s m = plainly (resultOf (aluOf op (s .a) (valueOf o s m) (s .f)) s)
-execOf (RetIf cc) s m = storeless (returnedIf (shapeOf (RetIf cc) .taken) (metOf cc (s .f)) (wordAt m (s .sp)) s)
+execOf (RetIf cc) s m = storeless (takenIf (metOf cc (s .f)) (shapeOf (RetIf cc) .taken) (returnedTo (wordAt m (s .sp)) s) s)
 execOf (StoreHigh n) s m = doing (storedTo (highAddress n) s)
 execOf (AddSp e) s m = plainly (addedToSpOf e s)
 execOf (LoadHigh n) s m = plainly (loadedFrom (highAddress n) s m)
@@ -132,7 +129,7 @@ execOf Ret s m = plainly (returnedTo (wordAt m (s .sp)) s)
 execOf Reti s m = plainly (withIme On (returnedTo (wordAt m (s .sp)) s))
 execOf JumpHl s m = plainly (withPc (hlOf s) s)
 execOf LoadSpHl s m = plainly (withSp (hlOf s) s)
-execOf (JumpIf cc w) s m = storeless (jumpedIf (shapeOf (JumpIf cc w) .taken) (metOf cc (s .f)) w s)
+execOf (JumpIf cc w) s m = storeless (takenIf (metOf cc (s .f)) (shapeOf (JumpIf cc w) .taken) (withPc w s) s)
 execOf StoreHighC s m = doing (storedTo (highAddress (s .c)) s)
 execOf (StoreTo w) s m = doing (storedTo w s)
 execOf LoadHighC s m = plainly (loadedFrom (highAddress (s .c)) s m)
@@ -144,7 +141,7 @@ execOf (Res k p) s m = doing (placedOf p (resetOf k (heldOf p s m)) s)
 execOf (Set k p) s m = doing (placedOf p (setOf k (heldOf p s m)) s)
 execOf Di s m = plainly (withIme Off s)
 execOf Ei s m = plainly (withIme (armedOf (s .ime)) s)
-execOf (CallIf cc w) s m = calledIf (shapeOf (CallIf cc w) .taken) (metOf cc (s .f)) w s
+execOf (CallIf cc w) s m = storing (takenIf (metOf cc (s .f)) (shapeOf (CallIf cc w) .taken) (calledOf w s .out) s) (storesIf (metOf cc (s .f)) (calledOf w s .stores))
 execOf (Push rp) s m = doing (pushedOf (stackedOf rp s) s)
 execOf (Call w) s m = doing (calledOf w s)
 execOf (Rst v) s m = doing (calledOf v s)
@@ -152,5 +149,5 @@ execOf Undefined s m = plainly s
 
 -- opens what the instructions do in a proof
 unfoldable pub acts : Unit {0}
-unfolding registerOf withRegister hlOf withHl pairOf withPair stackedOf withStacked metOf wordAt wordStores pushedOf returnedTo calledOf operandOf valueOf heldOf placedOf updatedOf pointedOf movedOf resultOf addedToHlOf addedToSpOf hlFromSpOf jumpedIf calledIf returnedIf storedTo loadedFrom storedAtOf highAddress complementedOf withCarryOf armedOf isOff haltMode haltedOf execOf
+unfolding registerOf withRegister hlOf withHl pairOf withPair stackedOf withStacked metOf wordAt wordStores pushedOf returnedTo calledOf operandOf valueOf heldOf placedOf updatedOf pointedOf movedOf resultOf addedToHlOf addedToSpOf hlFromSpOf takenIf storesIf storedTo loadedFrom storedAtOf highAddress complementedOf withCarryOf armedOf isOff haltMode haltedOf execOf
 acts = tt

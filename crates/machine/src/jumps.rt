@@ -5,9 +5,10 @@ use arith::words;
 use insn::Cond;
 ghost use mathlib.Core.Path.{_≡_};
 ghost use Rattle.arith.specs.Words.{offsetOf};
-ghost use Rattle.machine.specs.Answers.{Gives, making};
-ghost use Rattle.machine.specs.Execute.{jumpedIf, calledIf, returnedIf};
+ghost use Rattle.machine.specs.Answers.{Gives, storing, making};
+ghost use Rattle.machine.specs.Execute.{takenIf, storesIf};
 ghost use Rattle.machine.specs.Memory.{wordAt};
+ghost use Rattle.machine.specs.Stack.{calledOf, returnedTo};
 ghost use Rattle.machine.specs.State.{withPc, metOf, hlOf};
 
 impl Cpu {
@@ -29,7 +30,7 @@ impl Cpu {
 
     // A taken one costs 1 more.
     pub(crate) fn jump_if(self, cc: Cond, to: u16) -> Done
-        ensures { λ r. ⌜ r ≡ jumpedIf 1 (metOf cc (self .f)) to self ⌝ }
+        ensures { λ r. ⌜ r ≡ takenIf (metOf cc (self .f)) 1 (withPc to self) self ⌝ }
     {
         if self.met(cc) {
             Done {
@@ -45,14 +46,14 @@ impl Cpu {
     }
 
     pub(crate) fn jump_by_if(self, cc: Cond, e: u8) -> Done
-        ensures { λ r. ⌜ r ≡ jumpedIf 1 (metOf cc (self .f)) (offsetOf e (self .pc)) self ⌝ }
+        ensures { λ r. ⌜ r ≡ takenIf (metOf cc (self .f)) 1 (withPc (offsetOf e (self .pc)) self) self ⌝ }
     {
         self.jump_if(cc, words::offset(e, self.pc))
     }
 
     // A taken one costs 3 more.
     pub(crate) fn call_if(self, cc: Cond, to: u16, mem: &mut [u8]) -> Done
-        ensures { λ r. ⌜ Gives (making (calledIf 3 (metOf cc (self .f)) to self) (now (mem .entry))) r (now (mem .exit)) ⌝ }
+        ensures { λ r. ⌜ Gives (making (storing (takenIf (metOf cc (self .f)) 3 (calledOf to self .out) self) (storesIf (metOf cc (self .f)) (calledOf to self .stores))) (now (mem .entry))) r (now (mem .exit)) ⌝ }
     {
         if self.met(cc) {
             Done {
@@ -69,7 +70,7 @@ impl Cpu {
 
     // A taken one costs 3 more.
     pub(crate) fn ret_if(self, cc: Cond, mem: &[u8]) -> Done
-        ensures { λ r. ⌜ r ≡ returnedIf 3 (metOf cc (self .f)) (wordAt (now (mem .entry)) (self .sp)) self ⌝ }
+        ensures { λ r. ⌜ r ≡ takenIf (metOf cc (self .f)) 3 (returnedTo (wordAt (now (mem .entry)) (self .sp)) self) self ⌝ }
     {
         if self.met(cc) {
             Done {

@@ -1,12 +1,12 @@
 -- `call_if` meets its contract.
 use borrow.Author.Needs.{needs}
 use Rattle.machine.proofs.Gives.{exactly}
-use Rattle.machine.specs.Execute.{calledIf}
+use Rattle.machine.specs.Execute.{takenIf, storesIf}
 use Rattle.machine.proofs.Cpu.call_if.Statement.{statement}
 use Rattle.machine.proofs.Cpu.call_if.Tie as tie
 
 pub call-if-spec : {M : Type 1} → statement M
-unfolding calledIf
+unfolding takenIf storesIf
 call-if-spec =
     tie.close (tie.spec
     (search needs) (search needs) (search needs)

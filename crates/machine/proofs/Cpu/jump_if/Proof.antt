@@ -1,11 +1,11 @@
 -- `jump_if` meets its contract.
 use borrow.Author.Needs.{needs}
-use Rattle.machine.specs.Execute.{jumpedIf}
+use Rattle.machine.specs.Execute.{takenIf}
 use Rattle.machine.proofs.Cpu.jump_if.Statement.{statement}
 use Rattle.machine.proofs.Cpu.jump_if.Tie as tie
 
 pub jump-if-spec : {M : Type 1} → statement M
-unfolding jumpedIf
+unfolding takenIf
 jump-if-spec =
     tie.close (tie.spec
     (search needs) (search needs)

@@ -1,11 +1,11 @@
 -- `ret_if` meets its contract.
 use borrow.Author.Needs.{needs}
-use Rattle.machine.specs.Execute.{returnedIf}
+use Rattle.machine.specs.Execute.{takenIf}
 use Rattle.machine.proofs.Cpu.ret_if.Statement.{statement}
 use Rattle.machine.proofs.Cpu.ret_if.Tie as tie
 
 pub ret-if-spec : {M : Type 1} → statement M
-unfolding returnedIf
+unfolding takenIf
 ret-if-spec =
     tie.close (tie.spec
     (search needs) (search needs)
