@@ -1,11 +1,11 @@
 /* Measures the cores against each other on the workloads, all in this process.
  *
  *   measure [--goals] [--rounds N] NAME=IMAGE...
- *   measure --count CORE BUDGET IMAGE
+ *   measure --count CORE BUDGET IMAGE [CYCLES]
  *
  * The second form runs one core on one image in slices of a budget, for a tool
- * that counts instructions within the function `counted`, and prints the steps
- * taken there. */
+ * that counts instructions within the function `counted` or in the whole
+ * program, and prints the steps taken there. */
 
 #include "report.h"
 #include "workload.h"
@@ -71,8 +71,8 @@ static void read_arguments(int count, char **arguments) {
 }
 
 /* A tool finds this function by its name. */
-__attribute__((noipa)) struct timed counted(const struct core *core, uint32_t budget) {
-	return run_slices(core, budget, COUNTED_CYCLES);
+__attribute__((noipa)) struct timed counted(const struct core *core, uint32_t budget, uint32_t cycles) {
+	return run_slices(core, budget, cycles);
 }
 
 static const struct core *core_named(const char *name) {
@@ -84,22 +84,23 @@ static const struct core *core_named(const char *name) {
 	fail(name, "is no core of this program");
 }
 
-static void count_for_tool(char **arguments) {
+static void count_for_tool(int count, char **arguments) {
 	static uint8_t image[IMAGE_SIZE];
 	const struct core *core = core_named(arguments[0]);
 	uint32_t budget = read_number(arguments[1], BUDGET_LIMIT);
+	uint32_t cycles = count > 3 ? read_number(arguments[3], COUNTED_CYCLES) : COUNTED_CYCLES;
 	read_image(arguments[2], image);
 	core->load(image);
 	core->run(1); /* binds the functions of libraries */
 	core->load(image);
-	counted(core, budget);
+	counted(core, budget, cycles);
 	plain_core.load(image); /* as not every core counts its steps */
-	printf("%" PRIu64 "\n", run_slices(&plain_core, budget, COUNTED_CYCLES).steps);
+	printf("%" PRIu64 "\n", run_slices(&plain_core, budget, cycles).steps);
 }
 
 int main(int count, char **arguments) {
-	if (count == 5 && !strcmp(arguments[1], "--count")) {
-		count_for_tool(arguments + 2);
+	if ((count == 5 || count == 6) && !strcmp(arguments[1], "--count")) {
+		count_for_tool(count - 2, arguments + 2);
 		return 0;
 	}
 	read_arguments(count, arguments);

@@ -23,10 +23,13 @@ ghost use Rattle.machine.specs.Operands.{valueOf, heldOf, placedOf, upda
 ghost use Rattle.machine.specs.State.{withF, pairOf, withPair};
 
 impl Cpu {
-    pub(crate) fn math(self, op: Alu, o: Operand, mem: &[u8]) -> Cpu
+    pub(crate) fn math(mut self, op: Alu, o: Operand, mem: &[u8]) -> Cpu
         ensures { λ r. ⌜ r ≡ resultOf (aluOf op (self .a) (valueOf o self (now (mem .entry))) (self .f)) self ⌝ }
     {
-        self.with_result(bytes::operate(op, self.a, self.value(o, mem), self.f))
+        let r = bytes::operate(op, self.a, self.value(o, mem), self.f);
+        self.a = r.value;
+        self.f = r.flags;
+        Cpu { ..self }
     }
 
     pub(crate) fn increase(self, p: Place, mem: &mut [u8]) -> Cpu
@@ -71,16 +74,22 @@ impl Cpu {
         Cpu { ..self }
     }
 
-    pub(crate) fn rotate_a(self, op: Rot) -> Cpu
+    pub(crate) fn rotate_a(mut self, op: Rot) -> Cpu
         ensures { λ r. ⌜ r ≡ resultOf (rotationAOf op (self .a) (cOf (self .f))) self ⌝ }
     {
-        self.with_result(rotates::rotate_a(op, self.a, flags::carry(self.f)))
+        let r = rotates::rotate_a(op, self.a, flags::carry(self.f));
+        self.a = r.value;
+        self.f = r.flags;
+        Cpu { ..self }
     }
 
-    pub(crate) fn adjust(self) -> Cpu
+    pub(crate) fn adjust(mut self) -> Cpu
         ensures { λ r. ⌜ r ≡ resultOf (decimalOf (self .a) (self .f)) self ⌝ }
     {
-        self.with_result(decimal::adjust(self.a, self.f))
+        let r = decimal::adjust(self.a, self.f);
+        self.a = r.value;
+        self.f = r.flags;
+        Cpu { ..self }
     }
 
     pub(crate) fn complement(mut self) -> Cpu

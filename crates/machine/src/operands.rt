@@ -66,10 +66,11 @@ impl Cpu {
     }
 
     // A result put back into its place, with its F.
-    pub(crate) fn update(self, p: Place, r: Byte, mem: &mut [u8]) -> Cpu
+    pub(crate) fn update(mut self, p: Place, r: Byte, mem: &mut [u8]) -> Cpu
         ensures { λ n. ⌜ Gives (making (updatedOf p r self) (now (mem .entry))) n (now (mem .exit)) ⌝ }
     {
-        self.with_f(r.flags).place(p, r.value, mem)
+        self.f = r.flags;
+        self.place(p, r.value, mem)
     }
 
     // The address in a pointer.

@@ -23,11 +23,12 @@ impl Cpu {
         Cpu { ..self }
     }
 
-    pub(crate) fn call(self, to: u16, mem: &mut [u8]) -> Cpu
+    pub(crate) fn call(mut self, to: u16, mem: &mut [u8]) -> Cpu
         ensures { λ r. ⌜ Gives (making (calledOf to self) (now (mem .entry))) r (now (mem .exit)) ⌝ }
     {
         let pc = self.pc;
-        self.with_pc(to).push(pc, mem)
+        self.pc = to;
+        self.push(pc, mem)
     }
 
     // A return to a word that was on the stack.
@@ -45,12 +46,13 @@ impl Cpu {
         self.return_to(memory::read_word(mem, self.sp))
     }
 
-    pub(crate) fn pop(self, p: Stacked, mem: &[u8]) -> Cpu
+    pub(crate) fn pop(mut self, p: Stacked, mem: &[u8]) -> Cpu
         ensures { λ r. ⌜ r ≡ withStacked p (wordAt (now (mem .entry)) (self .sp)) (withSp (further 2 (self .sp)) self) ⌝ }
     {
         let sp = self.sp;
         let w = memory::read_word(mem, sp);
-        self.with_sp(words::further(2, sp)).with_stacked(p, w)
+        self.sp = words::further(2, sp);
+        self.with_stacked(p, w)
     }
 
     pub(crate) fn push_pair(self, p: Stacked, mem: &mut [u8]) -> Cpu

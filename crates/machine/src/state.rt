@@ -3,29 +3,13 @@
 use crate::Cpu;
 use crate::Ime;
 use crate::Mode;
-use arith::Byte;
 use arith::flags;
 use insn::Cond;
 use insn::Register;
 ghost use mathlib.Core.Path.{_≡_};
-ghost use Rattle.machine.specs.State.{withF, withAAndF, withSp, withPc, withIme, withMode, registerOf, withRegister, metOf};
-ghost use Rattle.machine.specs.Execute.{resultOf};
+ghost use Rattle.machine.specs.State.{withPc, withIme, withMode, registerOf, withRegister, metOf};
 
 impl Cpu {
-    pub(crate) fn with_f(mut self, f: u8) -> Cpu
-        ensures { λ r. ⌜ r ≡ withF f self ⌝ }
-    {
-        self.f = f;
-        Cpu { ..self }
-    }
-
-    pub(crate) fn with_sp(mut self, sp: u16) -> Cpu
-        ensures { λ r. ⌜ r ≡ withSp sp self ⌝ }
-    {
-        self.sp = sp;
-        Cpu { ..self }
-    }
-
     pub(crate) fn with_pc(mut self, pc: u16) -> Cpu
         ensures { λ r. ⌜ r ≡ withPc pc self ⌝ }
     {
@@ -44,15 +28,6 @@ impl Cpu {
         ensures { λ r. ⌜ r ≡ withMode mode self ⌝ }
     {
         Cpu { mode, ..self }
-    }
-
-    // A and F from a result.
-    pub(crate) fn with_result(mut self, r: Byte) -> Cpu
-        ensures { λ n. ⌜ n ≡ resultOf r self ⌝ }
-    {
-        self.a = r.value;
-        self.f = r.flags;
-        Cpu { ..self }
     }
 
     pub(crate) fn register(self, r: Register) -> u8

@@ -7,4 +7,4 @@ use Rattle.machine.proofs.Cpu.call.Tie as tie
 
 pub call-spec : {M : Type 1} → statement M
 unfolding calledOf
-call-spec = tie.close (tie.spec (search needs) (search needs) (search needs) (λ c. simp (c .before .before .push .ensures .answers, c .before .before .before .before .with-pc .ensures, c .before .before .push .ensures .leaves) exactly))
+call-spec = tie.close (tie.spec (search needs) (search needs) (λ c. simp (c .before .before .push .ensures .answers, c .before .before .push .ensures .leaves) exactly))

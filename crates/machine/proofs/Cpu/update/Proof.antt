@@ -7,4 +7,4 @@ use Rattle.machine.proofs.Cpu.update.Tie as tie
 
 pub update-spec : {M : Type 1} → statement M
 unfolding updatedOf
-update-spec = tie.close (tie.spec (search needs) (search needs) (search needs) (λ c. simp (c .before .before .place .ensures .answers, c .before .before .before .before .with-f .ensures, c .before .before .place .ensures .leaves) exactly))
+update-spec = tie.close (tie.spec (search needs) (search needs) (λ c. simp (c .before .before .place .ensures .answers, c .before .before .place .ensures .leaves) exactly))
