@@ -3,11 +3,11 @@
 use Prim.Native.Nat.{ℕ, zero, suc}
 use mathlib.Core.List.{List, []}
 use mathlib.Core.Path.{_≡_, refl}
-use Rattle.saved.specs.Block.{blank}
+use Rattle.saved.specs.Block.{clearedState}
 use Rattle.saved.specs.Refusals.{Accepted}
 use Rattle.saved.specs.Answers.{stateIf, memoryIf, startIf, leftBy}
 
-pub refused-state : (code : ℕ) (h : List ℕ) → (Accepted code → ⊥) → stateIf code h ≡ blank
+pub refused-state : (code : ℕ) (h : List ℕ) → (Accepted code → ⊥) → stateIf code h ≡ clearedState
 unfolding stateIf
 refused-state zero h p = absurd (p refl)
 refused-state (suc n) h p = refl

@@ -12,22 +12,22 @@ use lib.Seq.{take-all}
 use Rattle.machine.specs.Memory.{memorySize}
 use Rattle.machine.specs.declared.Cpu.{Cpu}
 use Rattle.machine.proofs.Sound.{Sound}
-use Rattle.saved.specs.Digits.{valueOf, digitsOf, numberOf, bytesOf, byteIn, numberIn}
+use Rattle.digits.specs.Digits.{worthOf, digitsOf, numberOf, bytesOf, byteIn, numberIn}
 use Rattle.saved.specs.Block.{blockSize, blockOf, flagsIn, heldIn}
 use Rattle.saved.specs.Head.{headSize, imageSize, headOf, imageOf, memoryIn}
 use Rattle.saved.specs.Head.{versionIn, blockSizeIn, blockIn, memorySizeIn, stateIn}
 use Rattle.saved.specs.Refusals.{Accepted}
 use Rattle.saved.specs.Answers.{stateIf, memoryIf, loadedBy, loadOf, loadHeadOf, openOf, leftBy, savedBy, saveHeadOf, saveImageOf}
-use Rattle.saved.proofs.Digits.{digits-below, below-more, below-append}
-use Rattle.saved.proofs.BigEndian.{Bytes, bytes-back}
+use Rattle.digits.proofs.Digits.{digits-below, below-more, below-append}
+use Rattle.digits.proofs.BigEndian.{ByteList, bytes-back}
 use Rattle.saved.proofs.Blocks.{held-back, has-codes, held-flags, block-back, held-sound, block-bytes}
-use Rattle.saved.proofs.Places.{bytesAt, part-bytes, bytes-at-length, bytes-at-below}
+use Rattle.digits.proofs.Places.{bytesAt, part-bytes, bytes-at-length, bytes-at-below}
 use Rattle.saved.proofs.Accepted.{Right, accepted-right, right-accepted, accepted-head-fits, accepted-image-fits, head-fits-accepted, image-fits-accepted}
 use Rattle.saved.proofs.Written.{head-length, image-length}
 
 -- opens the layout of a head, written and read
 unfoldable layout : Unit {0}
-unfolding valueOf digitsOf numberOf bytesOf blockOf headOf byteIn numberIn versionIn blockSizeIn blockIn memorySizeIn stateIn memoryIn
+unfolding worthOf digitsOf numberOf bytesOf blockOf headOf byteIn numberIn versionIn blockSizeIn blockIn memorySizeIn stateIn memoryIn
 layout = tt
 
 -- a head that is made from a state, with anything behind it
@@ -73,14 +73,14 @@ unfolding blockIn
 read-block h long = part-bytes blockSize 5 h (omega arith)
 
 -- the block of the state that was read is the block that is there
-block-again : (size : ℕ) (h : List ℕ) → headSize ≤ length h → Bytes h → Right size h
+block-again : (size : ℕ) (h : List ℕ) → headSize ≤ length h → ByteList h → Right size h
     → blockOf (stateIn h) ≡ bytesAt blockSize 5 h
 unfolding stateIn
 block-again size h long bytes right =
     let there = read-block h long in
     rw there (block-back _ (bytes-at-length blockSize 5 h) (bytes-at-below blockSize 5 h bytes) (rw there at (right .has-codes)))
 
-made-again : (size : ℕ) (h : List ℕ) → headSize ≤ length h → Bytes h → Right size h → headOf (stateIn h) ≡ take headSize h
+made-again : (size : ℕ) (h : List ℕ) → headSize ≤ length h → ByteList h → Right size h → headOf (stateIn h) ≡ take headSize h
 unfolding headOf versionIn blockSizeIn memorySizeIn byteIn bytesAt
 made-again size h long bytes right =
     let version = sym (right .version-is) in
@@ -113,7 +113,7 @@ opened-as-saved s m image sound accepted =
 
 -- a save of a load writes the same head again
 
-pub saved-as-loaded : (h old : List ℕ) → Bytes h → Accepted (loadHeadOf h .code) → length old ≡ headSize
+pub saved-as-loaded : (h old : List ℕ) → ByteList h → Accepted (loadHeadOf h .code) → length old ≡ headSize
     → saveHeadOf (loadHeadOf h .cpu) old ≡ record { out = 0; mem = h }
 unfolding loadHeadOf loadOf loadedBy stateIf saveHeadOf savedBy leftBy
 saved-as-loaded h old bytes accepted size =
@@ -125,7 +125,7 @@ saved-as-loaded h old bytes accepted size =
 
 -- and the same image
 
-pub saved-as-opened : (image old : List ℕ) → Bytes image → Accepted (openOf image .out .code) → length old ≡ imageSize
+pub saved-as-opened : (image old : List ℕ) → ByteList image → Accepted (openOf image .out .code) → length old ≡ imageSize
     → saveImageOf (openOf image .out .cpu) (openOf image .mem) old ≡ record { out = 0; mem = image }
 unfolding openOf loadOf loadedBy stateIf memoryIf memoryIn saveImageOf savedBy leftBy imageOf
 saved-as-opened image old bytes accepted size =
@@ -139,14 +139,14 @@ saved-as-opened image old bytes accepted size =
 
 -- what is saved is bytes, and what is loaded is a state as the code holds one
 
-pub saved-bytes : (s : Cpu) → Sound s → Bytes (headOf s)
+pub saved-bytes : (s : Cpu) → Sound s → ByteList (headOf s)
 unfolding headOf bytesOf
 saved-bytes s p =
     below-more (lit< tt)
     (below-append _ (digits-below (lit< tt) 4 blockSize)
     (below-append _ (block-bytes s p) (digits-below (lit< tt) 4 memorySize)))
 
-pub loaded-sound : (h : List ℕ) → headSize ≤ length h → Bytes h → Sound (stateIn h)
+pub loaded-sound : (h : List ℕ) → headSize ≤ length h → ByteList h → Sound (stateIn h)
 unfolding stateIn
 loaded-sound h long bytes =
     rw (read-block h long)

@@ -10,7 +10,7 @@ use lib.ListN.{length, take, drop, length-append, length-drop, drop-of-length-le
 use lib.Seq.{take-at, drop-at}
 use Rattle.machine.specs.Memory.{memorySize}
 use Rattle.machine.specs.declared.Cpu.{Cpu}
-use Rattle.saved.specs.Digits.{bytesOf, digitsOf}
+use Rattle.digits.specs.Digits.{bytesOf, digitsOf}
 use Rattle.saved.specs.Block.{blockOf}
 use Rattle.saved.specs.Head.{headSize, imageSize, headOf, imageOf}
 

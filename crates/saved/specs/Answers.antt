@@ -7,7 +7,7 @@ use mathlib.Core.Path.{_≡_}
 use denote.Ref.{RefT, now, ptr}
 use Rattle.machine.specs.Answers.{With}
 use Rattle.machine.specs.declared.Cpu.{Cpu}
-use Rattle.saved.specs.Block.{blank}
+use Rattle.saved.specs.Block.{clearedState}
 use Rattle.saved.specs.Head.{headSize, imageSize, headOf, imageOf, stateIn, memoryIn}
 use Rattle.saved.specs.Refusals.{loadCode, saveHeadCode, saveImageCode}
 use Rattle.saved.specs.declared.Loaded.{Loaded}
@@ -15,7 +15,7 @@ use Rattle.saved.specs.declared.Loaded.{Loaded}
 -- a state where nothing is refused, and the all-zero state where something is
 unfoldable pub stateIf : ℕ → List ℕ → Cpu
 stateIf zero h = stateIn h
-stateIf (suc n) h = blank
+stateIf (suc n) h = clearedState
 
 -- the memory where nothing is refused, and an empty part where something is
 unfoldable pub memoryIf : ℕ → List ℕ → List ℕ

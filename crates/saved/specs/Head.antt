@@ -5,7 +5,7 @@ use mathlib.Core.List.{List, _∷_, _++_}
 use lib.ListN.{take, drop}
 use Rattle.machine.specs.Memory.{Memory, memorySize}
 use Rattle.machine.specs.declared.Cpu.{Cpu}
-use Rattle.saved.specs.Digits.{bytesOf, byteIn, numberIn}
+use Rattle.digits.specs.Digits.{bytesOf, byteIn, numberIn}
 use Rattle.saved.specs.Block.{blockSize, blockOf, heldIn}
 
 -- the version, and every length: the head ends with the memory's length

@@ -12,7 +12,7 @@ use Rattle.machine.specs.Answers.{With, keeping}
 use Rattle.machine.specs.Run.{runOf}
 use Rattle.machine.specs.declared.Cpu.{Cpu}
 use Rattle.saved.specs.Answers.{loadHeadOf}
-use Rattle.saved.specs.Digits.{numberIn}
+use Rattle.digits.specs.Digits.{numberIn}
 use Rattle.saved.specs.declared.Loaded.{Loaded}
 use Rattle.text.specs.Answer.{refusalLine, printed, ranOf, loadedRun, answerIf, answerOf}
 

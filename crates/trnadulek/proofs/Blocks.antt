@@ -14,14 +14,14 @@ use Rattle.saved.specs.Head.{headSize, imageSize}
 use Rattle.saved.specs.Answers.{loadHeadOf, loadOf, loadedBy, stateIf, openOf, saveHeadOf, saveImageOf}
 use Rattle.saved.specs.Refusals.{Accepted}
 use Rattle.saved.proofs.Accepted.{accepted-right}
-use Rattle.saved.proofs.BigEndian.{Bytes}
+use Rattle.digits.proofs.BigEndian.{ByteList}
 use Rattle.saved.proofs.Blocks.{held-back, has-codes, block-back, held-sound}
 use Rattle.saved.proofs.RoundTrip.{loaded-as-saved, opened-as-saved, saved-as-loaded, saved-as-opened, loaded-sound}
 use Rattle.trnadulek.specs.Block.{blockLoaded, loadBlockOf, openBlockOf, savedIf, saveBlockOf, saveBlockImageOf}
 
 -- a load of what a save wrote gives the block back
 
-module _ (b : List ℕ) (size : length b ≡ blockSize) (bytes : Bytes b) where
+module _ (b : List ℕ) (size : length b ≡ blockSize) (bytes : ByteList b) where
   head-from : (h : List ℕ) (t : Bool) → hasCodes b ≡ t → Accepted (savedIf t (saveHeadOf (heldIn b) h) h .out)
       → loadBlockOf (savedIf t (saveHeadOf (heldIn b) h) h .mem) ≡ keeping 0 b
   unfolding savedIf loadBlockOf blockLoaded
@@ -48,19 +48,19 @@ module _ (b : List ℕ) (size : length b ≡ blockSize) (bytes : Bytes b) where
 
 -- a save of what a load gave writes the same bytes
 
-loads-sound : (size : ℕ) (h : List ℕ) → headSize ≤ size → Bytes h → Accepted (loadOf size h .code) → Sound (loadOf size h .cpu)
+loads-sound : (size : ℕ) (h : List ℕ) → headSize ≤ size → ByteList h → Accepted (loadOf size h .code) → Sound (loadOf size h .cpu)
 unfolding loadOf loadedBy stateIf
 loads-sound size h p bytes accepted =
     rw accepted (loaded-sound h (omega (arith, accepted-right size h accepted .size-is)) bytes)
 
-pub head-saved-as-loaded : (h old : List ℕ) → Bytes h → length old ≡ headSize → Accepted (loadBlockOf h .out)
+pub head-saved-as-loaded : (h old : List ℕ) → ByteList h → length old ≡ headSize → Accepted (loadBlockOf h .out)
     → saveBlockOf (loadBlockOf h .mem) old ≡ keeping 0 h
 unfolding loadBlockOf blockLoaded saveBlockOf savedIf loadHeadOf
 head-saved-as-loaded h old bytes size accepted =
     let sound = loads-sound headSize h (omega arith) bytes accepted in
     rw (has-codes (loadHeadOf h .cpu), held-back (loadHeadOf h .cpu) sound) (saved-as-loaded h old bytes accepted size)
 
-pub image-saved-as-opened : (image old : List ℕ) → Bytes image → length old ≡ imageSize → Accepted (openBlockOf image .out)
+pub image-saved-as-opened : (image old : List ℕ) → ByteList image → length old ≡ imageSize → Accepted (openBlockOf image .out)
     → saveBlockImageOf (openBlockOf image .mem) (openOf image .mem) old ≡ keeping 0 image
 unfolding openBlockOf blockLoaded saveBlockImageOf savedIf openOf
 image-saved-as-opened image old bytes size accepted =

@@ -17,12 +17,12 @@ use Rattle.machine.proofs.Refused.{step-unmoved}
 use Rattle.machine.proofs.Runs.{Valid, run-unfit, run-flags, run-budget, run-valid, run-code}
 use Rattle.arith.specs.Words.{highOf, lowOf}
 use Rattle.saved.specs.Codes.{imeCode, modeCode}
-use Rattle.saved.specs.Block.{blockSize, blockOf, heldIn, hasCodes, blank}
+use Rattle.saved.specs.Block.{blockSize, blockOf, heldIn, hasCodes, clearedState}
 use Rattle.saved.specs.Head.{headSize, imageSize, imageOf, stateIn, memoryIn}
 use Rattle.saved.specs.Refusals.{Accepted, loadCode}
 use Rattle.saved.specs.Answers.{stateIf, memoryIf, loadOf, loadedBy, loadHeadOf, openOf, leftBy, savedBy, saveHeadOf, saveImageOf}
 use Rattle.saved.proofs.Accepted.{accepted-right}
-use Rattle.saved.proofs.BigEndian.{Bytes}
+use Rattle.digits.proofs.BigEndian.{ByteList}
 use Rattle.saved.proofs.Blocks.{block-back}
 use Rattle.saved.proofs.Refused.{refused-state, refused-left}
 use Rattle.saved.proofs.RoundTrip.{saved-as-opened}
@@ -59,7 +59,7 @@ pub record StepLeaves (b m : List ℕ) (w : BlockStep) : Type 0 where
   pub memory : w .memory ≡ m
   pub cycles : w .cycles ≡ 0
 
-module _ (b m : List ℕ) (size : length b ≡ blockSize) (bytes : Bytes b) where
+module _ (b m : List ℕ) (size : length b ≡ blockSize) (bytes : ByteList b) where
   step-by : (t : Bool) → hasCodes b ≡ t → stepIf t b m .code ≢ 0 → StepLeaves b m (stepIf t b m)
   unfolding stepIf blockStepped
   step-by true codes refused =
@@ -83,7 +83,7 @@ pub record RunLeaves (b m : List ℕ) (w : BlockRun) : Type 0 where
   pub spent : w .spent ≡ 0
   pub steps : w .steps ≡ 0
 
-module _ (budget : ℕ) (b m : List ℕ) (size : length b ≡ blockSize) (bytes : Bytes b) where
+module _ (budget : ℕ) (b m : List ℕ) (size : length b ≡ blockSize) (bytes : ByteList b) where
   run-by : (t : Bool) → hasCodes b ≡ t → runIf t budget b m .code ≢ 0 → runIf t budget b m .code ≢ 3
       → runIf t budget b m .code ≢ 4 → RunLeaves b m (runIf t budget b m)
   unfolding runIf blockRan
@@ -105,14 +105,14 @@ pub record ImageLeaves (image : List ℕ) (w : ImageRun) : Type 0 where
   pub steps : w .steps ≡ 0
 
 -- the image of the state and the memory in an image that opens is that image
-same-image : (image : List ℕ) → Bytes image → Accepted (loadCode imageSize image) → imageOf (stateIn image) (memoryIn image) ≡ image
+same-image : (image : List ℕ) → ByteList image → Accepted (loadCode imageSize image) → imageOf (stateIn image) (memoryIn image) ≡ image
 unfolding openOf loadOf loadedBy stateIf memoryIf saveImageOf savedBy leftBy
 same-image image bytes accepted =
     let whole = rw accepted at (saved-as-opened image image bytes accepted (accepted-right imageSize image accepted .size-is)) in
     let written = ap (λ (w : With ℕ). w .out) whole in
     rw written at (ap (λ (w : With ℕ). w .mem) whole)
 
-module _ (budget : ℕ) (image : List ℕ) (bytes : Bytes image) where
+module _ (budget : ℕ) (image : List ℕ) (bytes : ByteList image) where
   image-by : (n : ℕ) → loadCode imageSize image ≡ n → runImageIf n budget image .code ≢ 0 → runImageIf n budget image .code ≢ 3
       → runImageIf n budget image .code ≢ 4 → ImageLeaves image (runImageIf n budget image)
   unfolding runImageIf imageRan
@@ -128,8 +128,8 @@ module _ (budget : ℕ) (image : List ℕ) (bytes : Bytes image) where
 
 -- loads
 
-pub zeros : blockOf blank ≡ replicate blockSize 0
-unfolding blank blockOf highOf lowOf imeCode modeCode
+pub zeros : blockOf clearedState ≡ replicate blockSize 0
+unfolding clearedState blockOf highOf lowOf imeCode modeCode
 zeros = refl
 
 load-zeros : (size : ℕ) (h : List ℕ) → loadOf size h .code ≢ 0 → blockOf (loadOf size h .cpu) ≡ replicate blockSize 0

@@ -22,7 +22,7 @@ returns c = rw (c .state-in .ensures, ← (c .before .before .load-refusal .ensu
 returns-2 : tie.Need-returns-2
 unfolding loadOf loadedBy
 returns-2 c =
-    rw (c .blank-state .ensures, ← (c .before .before .load-refusal .ensures), refused-state _ _ (c .before .if1 .left))
+    rw (c .cleared-state .ensures, ← (c .before .before .load-refusal .ensures), refused-state _ _ (c .before .if1 .left))
 
 pub load-spec : {M : Type 1} → statement M
 load-spec = tie.close (tie.spec (search needs) state-in-requires (search needs) returns returns-2)

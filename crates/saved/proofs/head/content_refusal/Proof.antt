@@ -8,7 +8,7 @@ use native.Mathlib.Omega.{arith}
 use borrow.Author.Tests.{eq-eqb, ne-eqb}
 use Rattle.arith.specs.Refusals.{numberOr, codeOf}
 use Rattle.machine.specs.Memory.{memorySize}
-use Rattle.saved.specs.Digits.{byteIn}
+use Rattle.digits.specs.Digits.{byteIn}
 use Rattle.saved.specs.Block.{blockSize, flagsIn, hasCodes}
 use Rattle.saved.specs.Head.{versionIn, blockSizeIn, blockIn, memorySizeIn, version}
 use Rattle.saved.specs.Refusals.{contentRefusals}

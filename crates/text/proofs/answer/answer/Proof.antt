@@ -7,7 +7,7 @@ use lib.ListN.{length, drop, length-drop}
 use lib.Seq.{take-all}
 use Rattle.machine.proofs.Gives.{exactly}
 use Rattle.saved.specs.Answers.{loadHeadOf}
-use Rattle.saved.specs.Digits.{numberIn}
+use Rattle.digits.specs.Digits.{numberIn}
 use Rattle.text.specs.Answer.{ranOf}
 use Rattle.text.proofs.Ends.{first-four, too-short-or-long, lead-wrong, lengths-right, head-refused, head-taken}
 use Rattle.text.proofs.answer.answer.Statement.{statement}

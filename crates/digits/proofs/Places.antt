@@ -7,7 +7,7 @@ use native.Mathlib.Omega.{arith}
 use lib.ListN.{length, getD, take, drop}
 use lib.Dec.{lit<}
 use lib.Seq.{drop-cons}
-use Rattle.saved.proofs.Digits.{Below, below-none, below-more}
+use Rattle.digits.proofs.Digits.{Below, below-none, below-more}
 
 -- the k bytes from a place on
 unfoldable pub bytesAt : ℕ → ℕ → List ℕ → List ℕ
