@@ -14,7 +14,10 @@ use Rattle.digits.specs.Ascii.{ascii}
 use Rattle.digits.specs.Numerals.{glyphOf, widthIf, widthOf, decimalText}
 use Rattle.digits.proofs.Digits.{Below, below-rest, digits-below, digits-length, worth-digits}
 
--- the glyphs of the digits 0 to 9 count up from that of 0
+-- the glyphs of the digits 0 to 9 count up from that of 0, and those of 10 to 15 from A
+
+abbrev pub zeroGlyph : ℕ
+zeroGlyph = 48
 
 abbrev upFrom : ℕ → ℕ → List ℕ
 upFrom c zero = []
@@ -25,15 +28,15 @@ up-at c zero k rest h = absurd (omega arith)
 up-at c (suc n) zero rest h = omega arith
 up-at c (suc n) (suc k) rest h = up-at (suc c) n k rest (le-of-suc-le-suc h) ∙ omega arith
 
-glyph-decimal : (d : ℕ) → d < 10 → glyphOf d ≡ 48 + d
+glyph-decimal : (d : ℕ) → d < 10 → glyphOf d ≡ zeroGlyph + d
 unfolding glyphOf ascii
 glyph-decimal d h =
     let below : d < 16 = omega arith in
-    rw (mod-eq-of-lt below) (up-at 48 10 d (upFrom 65 6) h)
+    rw (mod-eq-of-lt below) (up-at zeroGlyph 10 d (upFrom 65 6) h)
 
 -- a digit by its glyph
 abbrev pub digitBy : ℕ → ℕ
-digitBy glyph = glyph % 48
+digitBy glyph = glyph % zeroGlyph
 
 read-again : (digits : List ℕ) → Below 10 digits → map digitBy (map glyphOf digits) ≡ digits
 read-again [] p = refl
@@ -74,9 +77,9 @@ decimal-read n h =
 -- the first digit is there, and is no 0
 abbrev pub Leads : List ℕ → Type 0
 Leads [] = ⊥
-Leads (c ∷ cs) = 48 < c
+Leads (c ∷ cs) = zeroGlyph < c
 
-first-digit : (k n : ℕ) → 10 ^ k ≤ n → n < 10 ^ suc k → 48 < glyphOf (n / 10 ^ k % 10)
+first-digit : (k n : ℕ) → 10 ^ k ≤ n → n < 10 ^ suc k → zeroGlyph < glyphOf (n / 10 ^ k % 10)
 first-digit k n reached h =
     let pos = one-le-pow k 10 (lit< tt) in
     let few : n / 10 ^ k < 10 = div-lt-iff-lt-mul pos .1 (rw (pow-suc, mul-comm) at h) in

@@ -1,7 +1,7 @@
 -- A state and its block, each made from the other.
 -- Assumes nothing.
 use Prim.Native.Nat.{ℕ, _<_}
-use mathlib.Core.Bool.{Bool, true, false, _&&_}
+use mathlib.Core.Bool.{true, and-eq-true-iff}
 use mathlib.Core.List.{List}
 use mathlib.Core.Path.{_≡_, refl, sym, _∙_}
 use native.Mathlib.Nat.{mod-lt}
@@ -39,15 +39,10 @@ held-flags s = refl
 
 -- a block of bytes whose codes stand for something is the block of the state that it holds
 
-both : (x y : Bool) → x && y ≡ true → (x ≡ true) × (y ≡ true)
-both true y e = (refl, e)
-both false true e = (e, refl)
-both false false e = (e, e)
-
 pub block-back : (b : List ℕ) → length b ≡ blockSize → ByteList b → hasCodes b ≡ true → blockOf (heldIn b) ≡ b
 unfolding heldIn hasCodes blockOf flagsIn imeCodeIn modeCodeIn byteIn bytesAt
 block-back b size bytes codes =
-    let most = both (leb (imeCodeIn b) 2) (leb (modeCodeIn b) 3) codes in
+    let most = and-eq-true-iff (leb (imeCodeIn b) 2) (leb (modeCodeIn b) 3) .0 codes in
     let ime = ime-code-back (imeCodeIn b) (leb-true _ _ (most .0)) in
     let mode = mode-code-back (modeCodeIn b) (leb-true _ _ (most .1)) in
     let whole = take-all blockSize b (omega (arith, size)) in

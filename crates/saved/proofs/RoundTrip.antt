@@ -9,6 +9,7 @@ use native.Mathlib.Omega.{arith}
 use lib.Dec.{lit<}
 use lib.ListN.{length, take, drop, take-append-drop, length-drop, length-take}
 use lib.Seq.{take-all}
+use Rattle.arith.specs.Refusals.{unlessRefused}
 use Rattle.machine.specs.Memory.{memorySize}
 use Rattle.machine.specs.declared.Cpu.{Cpu}
 use Rattle.machine.proofs.Sound.{Sound}
@@ -59,7 +60,7 @@ module _ (s : Cpu) (behind : List ℕ) where
 
   made-load : (size : ℕ) → length (headOf s ++ behind) ≡ size → s .f % 16 ≡ 0 → Sound s
       → loadOf size (headOf s ++ behind) ≡ record { code = 0; cpu = s }
-  unfolding loadOf loadedBy stateIf
+  unfolding loadOf loadedBy stateIf unlessRefused
   made-load size p q sound = rw (right-accepted size _ (made-right size p q), made-state sound)
 
 -- a head that is read, and made again from the state that was read
@@ -93,7 +94,7 @@ made-again size h long bytes right =
 
 pub loaded-as-saved : (s : Cpu) (h : List ℕ) → Sound s → Accepted (saveHeadOf s h .out)
     → loadHeadOf (saveHeadOf s h .mem) ≡ record { code = 0; cpu = s }
-unfolding saveHeadOf savedBy leftBy loadHeadOf
+unfolding saveHeadOf savedBy leftBy loadHeadOf unlessRefused
 loaded-as-saved s h sound accepted =
     let fits = accepted-head-fits s h accepted in
     let whole = append-nil (headOf s) in
@@ -104,7 +105,7 @@ loaded-as-saved s h sound accepted =
 
 pub opened-as-saved : (s : Cpu) (m image : List ℕ) → Sound s → Accepted (saveImageOf s m image .out)
     → openOf (saveImageOf s m image .mem) ≡ record { out = record { code = 0; cpu = s }; mem = m }
-unfolding saveImageOf savedBy leftBy imageOf openOf memoryIf
+unfolding saveImageOf savedBy leftBy imageOf openOf memoryIf unlessRefused
 opened-as-saved s m image sound accepted =
     let fits = accepted-image-fits s m image accepted in
     let size = image-length s m (fits .memory-is) in
@@ -115,7 +116,7 @@ opened-as-saved s m image sound accepted =
 
 pub saved-as-loaded : (h old : List ℕ) → ByteList h → Accepted (loadHeadOf h .code) → length old ≡ headSize
     → saveHeadOf (loadHeadOf h .cpu) old ≡ record { out = 0; mem = h }
-unfolding loadHeadOf loadOf loadedBy stateIf saveHeadOf savedBy leftBy
+unfolding loadHeadOf loadOf loadedBy stateIf saveHeadOf savedBy leftBy unlessRefused
 saved-as-loaded h old bytes accepted size =
     let right = accepted-right headSize h accepted in
     let fits = head-fits-accepted (stateIn h) old (record { size-is = size; flags-low = rw read-flags (right .flags-low) }) in
@@ -127,7 +128,7 @@ saved-as-loaded h old bytes accepted size =
 
 pub saved-as-opened : (image old : List ℕ) → ByteList image → Accepted (openOf image .out .code) → length old ≡ imageSize
     → saveImageOf (openOf image .out .cpu) (openOf image .mem) old ≡ record { out = 0; mem = image }
-unfolding openOf loadOf loadedBy stateIf memoryIf memoryIn saveImageOf savedBy leftBy imageOf
+unfolding openOf loadOf loadedBy stateIf memoryIf memoryIn saveImageOf savedBy leftBy imageOf unlessRefused
 saved-as-opened image old bytes accepted size =
     let right = accepted-right imageSize image accepted in
     let long : headSize ≤ length image = omega (arith, right .size-is) in

@@ -1,11 +1,12 @@
 -- The program: from its input, 65,563 bytes, to the two lines that it prints. Document 01, "The program".
 -- The input is a budget in four bytes and a head, which are the 27 bytes of the lead, and the memory.
 -- Assumes nothing.
-use Prim.Native.Nat.{ℕ, zero, suc, _+_}
+use Prim.Native.Nat.{ℕ, _+_}
 use mathlib.Core.Bool.{Bool, true, false, _||_, _&&_}
 use mathlib.Core.List.{List, [], _∷_, _++_}
 use lib.Dec.{eqb}
 use lib.ListN.{length, drop}
+use Rattle.arith.specs.Refusals.{unlessRefused}
 use Rattle.arith.specs.Words.{wordOf}
 use Rattle.digits.specs.Digits.{numberIn}
 use Rattle.digits.specs.Ascii.{ascii, space, newline}
@@ -81,8 +82,7 @@ unfoldable pub ranOf : With Ran → With Text
 ranOf w = record { out = ranText (w .out); mem = w .mem }
 
 unfoldable pub loadedRun : ℕ → Cpu → ℕ → List ℕ → With Text
-loadedRun zero s budget m = ranOf (runOf budget s m)
-loadedRun (suc n) s budget m = keeping (printed (refusalLine (suc n))) m
+loadedRun code s budget m = unlessRefused code (λ _. ranOf (runOf budget s m)) (λ n. keeping (printed (refusalLine n)) m)
 
 -- an input of the right length, or 6
 unfoldable pub answerIf : Bool → List ℕ → List ℕ → With Text

@@ -5,6 +5,7 @@ use native.Mathlib.Omega.{arith}
 use mathlib.Core.List.{_++_}
 use lib.ListN.{length, take, drop}
 use lib.Seq.{take-length}
+use Rattle.arith.specs.Refusals.{unlessRefused}
 use Rattle.saved.specs.Refusals.{Accepted, saveHeadCode}
 use Rattle.saved.specs.Answers.{saveHeadOf, savedBy, leftBy}
 use Rattle.saved.proofs.Accepted.{HeadFits, accepted-head-fits}
@@ -33,7 +34,7 @@ copy-requires c κs =
     omega (arith, size, fits (bytes .before) .size-is)
 
 returns : tie.Need-returns
-unfolding saveHeadOf savedBy leftBy
+unfolding saveHeadOf savedBy leftBy unlessRefused
 returns c =
     let copied = c .before .before in
     let bytes = copied .before .before .before in
@@ -51,7 +52,7 @@ returns c =
 returns-2 : tie.Need-returns-2
 unfolding saveHeadOf savedBy
 returns-2 c =
-    record { answers = c .before .save-head-refusal .ensures; leaves = sym (refused-left _ _ _ (refused c)) }
+    record { answers = c .before .save-head-refusal .ensures; leaves = sym (refused-left _ (refused c) _ _) }
 
 pub save-head-spec : {M : Type 1} → statement M
 save-head-spec =

@@ -6,7 +6,8 @@ use Prim.Native.Nat.{ℕ, _-_}
 use mathlib.Core.List.{List, _++_}
 use lib.ListN.{length, take, drop}
 use lib.Seq.{take-length}
-use Rattle.saved.specs.Head.{imageSize}
+use Rattle.saved.specs.Head.{headSize, imageSize}
+use Rattle.arith.specs.Refusals.{unlessRefused}
 use Rattle.saved.specs.Refusals.{Accepted, saveImageCode}
 use Rattle.saved.specs.Answers.{saveImageOf, savedBy, leftBy}
 use Rattle.saved.proofs.Accepted.{ImageFits, accepted-image-fits}
@@ -31,7 +32,7 @@ refused c e = omega arith
 
 -- the part of the image behind the head, once the head is in it
 abbrev behind-part : tie.After-copy → List ℕ
-behind-part c = let image = c .copy .last .1 .0 in take (length image - 23) (drop 23 image)
+behind-part c = let image = c .copy .last .1 .0 in take (length image - headSize) (drop headSize image)
 
 -- the image once the head is in it
 written : (c : tie.After-copy)
@@ -68,7 +69,7 @@ copy-requires-2 c κs =
     (omega (arith, right .memory-is))
 
 returns : tie.Need-returns
-unfolding saveImageOf savedBy leftBy
+unfolding saveImageOf savedBy leftBy unlessRefused
 returns c =
     let copied = c .before .before .before .before .before .before in
     let then = copied .before .before .before .before in
@@ -87,7 +88,7 @@ returns c =
 returns-2 : tie.Need-returns-2
 unfolding saveImageOf savedBy
 returns-2 c =
-    record { answers = c .before .save-image-refusal .ensures; leaves = sym (refused-left _ _ _ (refused c)) }
+    record { answers = c .before .save-image-refusal .ensures; leaves = sym (refused-left _ (refused c) _ _) }
 
 pub save-image-spec : {M : Type 1} → statement M
 save-image-spec =

@@ -5,7 +5,7 @@ use Prim.Native.Nat.{_≤_}
 use mathlib.Core.Path.{_≡_, sym}
 use native.Mathlib.Omega.{arith}
 use lib.ListN.{length}
-use Rattle.saved.specs.Head.{imageSize}
+use Rattle.saved.specs.Head.{headSize, imageSize}
 use Rattle.trnadulek.proofs.Images.{no-run, one-run, size-is, head-length, head-room}
 use Rattle.trnadulek.proofs.trnadulek_run_image.Statement.{statement}
 use Rattle.trnadulek.proofs.trnadulek_run_image.Tie as tie
@@ -13,7 +13,7 @@ use Rattle.trnadulek.proofs.trnadulek_run_image.Tie as tie
 size : (c : tie.Else1) → length (c .before .before .before .before .args .image .now) ≡ imageSize
 size c = size-is _ _ (c .before .check-image .ensures) (c .if1 .left)
 
-long : (c : tie.Else1) → 23 ≤ length (c .before .before .before .before .args .image .now)
+long : (c : tie.Else1) → headSize ≤ length (c .before .before .before .before .args .image .now)
 long c = omega (arith, size c)
 
 returns : tie.Need-returns
