@@ -23,20 +23,27 @@ use Rattle.trnadulek.proofs.trnadulek_words.Reads as words
 -- a step: the answer, the state block, the memory, the cycles
 pub trnadulek-step-unique : OneOutcome {S = List ℕ × (List ℕ × ℕ)} step.Post (λ κs e. (now (e .0), (now (e .1 .0), now (e .1 .1 .0))))
 trnadulek-step-unique _ _ _ _ _ _ p q =
-    (same (p .answers) (q .answers), λ i. (same (p .leaves-state) (q .leaves-state) i,
-    (same (p .leaves-memory) (q .leaves-memory) i, same (p .leaves-cycles) (q .leaves-cycles) i)))
+    let state = same (p .leaves-state) (q .leaves-state) in
+    let memory = same (p .leaves-memory) (q .leaves-memory) in
+    let cycles = same (p .leaves-cycles) (q .leaves-cycles) in
+    (same (p .answers) (q .answers), λ i. (state i, (memory i, cycles i)))
 
 -- a run: the answer, the state block, the memory, the cycles spent and the steps taken, which stand after the budget
 pub trnadulek-run-unique : OneOutcome {S = List ℕ × (List ℕ × (ℕ × ℕ))} run.Post (λ κs e. (now (e .0), (now (e .1 .0), (now (e .1 .1 .1 .0), now (e .1 .1 .1 .1 .0)))))
 trnadulek-run-unique _ _ _ _ _ _ p q =
-    (same (p .answers) (q .answers), λ i. (same (p .leaves-state) (q .leaves-state) i, (same (p .leaves-memory) (q .leaves-memory) i,
-    (same (p .leaves-spent) (q .leaves-spent) i, same (p .leaves-steps) (q .leaves-steps) i))))
+    let state = same (p .leaves-state) (q .leaves-state) in
+    let memory = same (p .leaves-memory) (q .leaves-memory) in
+    let spent = same (p .leaves-spent) (q .leaves-spent) in
+    let steps = same (p .leaves-steps) (q .leaves-steps) in
+    (same (p .answers) (q .answers), λ i. (state i, (memory i, (spent i, steps i))))
 
 -- a run of an image: the answer, the image, the cycles spent and the steps taken
 pub trnadulek-run-image-unique : OneOutcome {S = List ℕ × (ℕ × ℕ)} run-image.Post (λ κs e. (now (e .0), (now (e .1 .1 .0), now (e .1 .1 .1 .0))))
 trnadulek-run-image-unique _ _ _ _ _ _ p q =
-    (same (p .answers) (q .answers), λ i. (same (p .leaves-image) (q .leaves-image) i,
-    (same (p .leaves-spent) (q .leaves-spent) i, same (p .leaves-steps) (q .leaves-steps) i)))
+    let image = same (p .leaves-image) (q .leaves-image) in
+    let spent = same (p .leaves-spent) (q .leaves-spent) in
+    let steps = same (p .leaves-steps) (q .leaves-steps) in
+    (same (p .answers) (q .answers), λ i. (image i, (spent i, steps i)))
 
 -- a load, a save, words: the answer, and the block, head, image or slice that is written
 pub trnadulek-load-head-unique : OneOutcome load-head.Post (λ κs e. now (e .1 .0))
