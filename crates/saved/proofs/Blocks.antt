@@ -18,9 +18,8 @@ use Rattle.digits.specs.Digits.{byteIn}
 use Rattle.saved.specs.Codes.{imeCode, modeCode}
 use Rattle.saved.specs.Block.{blockSize, blockOf, flagsIn, imeCodeIn, modeCodeIn, hasCodes, heldIn}
 use Rattle.digits.proofs.Digits.{below-none, below-more}
-use Rattle.digits.proofs.BigEndian.{ByteList}
 use Rattle.saved.proofs.CodesBack.{ime-back, ime-most, ime-code-back, mode-back, mode-most, mode-code-back}
-use Rattle.digits.proofs.Places.{bytesAt, part-bytes}
+use Rattle.digits.proofs.Places.{ByteList, bytesAt, part-bytes}
 
 -- the block of a state holds that state
 

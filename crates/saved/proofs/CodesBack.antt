@@ -1,23 +1,13 @@
 -- The codes of IME and mode and what they stand for: each way back.
 -- Assumes nothing.
 use Prim.Native.Nat.{ℕ, zero, suc, _≤_}
-use mathlib.Core.List.{List, [], _∷_, _++_}
 use mathlib.Core.Path.{_≡_, refl}
-use native.Mathlib.Nat.{le-of-suc-le-suc}
 use native.Mathlib.Omega.{arith}
-use lib.ListN.{length, getD}
 use Rattle.machine.specs.declared.Ime.{Ime}
 use Rattle.machine.specs.declared.Ime.the-variants.{Off, Arming, On}
 use Rattle.machine.specs.declared.Mode.{Mode}
 use Rattle.machine.specs.declared.Mode.the-variants.{Running, Repeat, Halted, Stopped}
 use Rattle.saved.specs.Codes.{imeCode, imeAt, modeCode, modeAt}
-
--- past all but its last entry, a list that answers this one beyond its end answers it
-last-of : {A : Type 0} (front : List A) (x : A) (k : ℕ) → length front ≤ k → getD (front ++ (x ∷ [])) k x ≡ x
-last-of [] x zero h = refl
-last-of [] x (suc k) h = refl
-last-of (y ∷ front) x zero h = absurd (omega arith)
-last-of (y ∷ front) x (suc k) h = last-of front x k (le-of-suc-le-suc h)
 
 pub ime-back : (i : Ime) → imeAt (imeCode i) ≡ i
 unfolding imeCode imeAt
@@ -40,7 +30,10 @@ ime-code-back (suc (suc (suc k))) h = omega arith
 
 pub ime-last : (k : ℕ) → 2 ≤ k → imeAt k ≡ On
 unfolding imeAt
-ime-last = last-of (Off ∷ Arming ∷ []) On
+ime-last zero h = absurd (omega arith)
+ime-last (suc zero) h = absurd (omega arith)
+ime-last (suc (suc zero)) h = refl
+ime-last (suc (suc (suc k))) h = refl
 
 pub mode-back : (m : Mode) → modeAt (modeCode m) ≡ m
 unfolding modeCode modeAt
@@ -66,4 +59,8 @@ mode-code-back (suc (suc (suc (suc k)))) h = omega arith
 
 pub mode-last : (k : ℕ) → 3 ≤ k → modeAt k ≡ Stopped
 unfolding modeAt
-mode-last = last-of (Running ∷ Repeat ∷ Halted ∷ []) Stopped
+mode-last zero h = absurd (omega arith)
+mode-last (suc zero) h = absurd (omega arith)
+mode-last (suc (suc zero)) h = absurd (omega arith)
+mode-last (suc (suc (suc zero))) h = refl
+mode-last (suc (suc (suc (suc k)))) h = refl

@@ -20,9 +20,8 @@ use Rattle.saved.specs.Head.{versionIn, blockSizeIn, blockIn, memorySize
 use Rattle.saved.specs.Refusals.{Accepted}
 use Rattle.saved.specs.Answers.{stateIf, memoryIf, loadedBy, loadOf, loadHeadOf, openOf, leftBy, savedBy, saveHeadOf, saveImageOf}
 use Rattle.digits.proofs.Digits.{digits-below, below-more, below-append}
-use Rattle.digits.proofs.BigEndian.{ByteList, bytes-back}
 use Rattle.saved.proofs.Blocks.{held-back, has-codes, held-flags, block-back, held-sound, block-bytes}
-use Rattle.digits.proofs.Places.{bytesAt, part-bytes, bytes-at-length, bytes-at-below}
+use Rattle.digits.proofs.Places.{ByteList, bytes-back, bytesAt, part-bytes, bytes-at-length, bytes-at-below}
 use Rattle.saved.proofs.Accepted.{Right, accepted-right, right-accepted, accepted-head-fits, accepted-image-fits, head-fits-accepted, image-fits-accepted}
 use Rattle.saved.proofs.Written.{head-length, image-length}
 

@@ -42,8 +42,8 @@ abbrev pub behind : Cpu → List ℕ → List ℕ
 behind s image = take (length (headed s image) - headSize) (drop headSize (headed s image))
 
 module _ (s : Cpu) (m image : List ℕ) (size : length image ≡ imageSize) (memory : length m ≡ memorySize) where
-  pub room : length (behind s image) ≡ memorySize
-  room =
+  pub behind-length : length (behind s image) ≡ memorySize
+  behind-length =
       let rest = drop-at (headOf s) (drop (length (headOf s)) image) headSize (head-length s) in
       rw (part-to-end (headed s image) headSize, rest, head-length s) (simp length-drop (omega arith))
 
@@ -53,7 +53,7 @@ module _ (s : Cpu) (m image : List ℕ) (size : length image ≡ imageSize) (mem
   unfolding imageOf
   image-written =
       rw (
-        copied-over m (behind s image) (omega (arith, room, memory)),
+        copied-over m (behind s image) (omega (arith, behind-length, memory)),
         put-to-end headSize (headed s image) m,
         take-at (headOf s) (drop (length (headOf s)) image) headSize (head-length s),
       )

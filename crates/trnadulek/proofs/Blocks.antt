@@ -16,7 +16,7 @@ use Rattle.saved.specs.Answers.{loadHeadOf, loadOf, loadedBy, stateIf, openOf, 
 use Rattle.saved.specs.Refusals.{Accepted}
 use Rattle.saved.specs.declared.Loaded.{Loaded}
 use Rattle.saved.proofs.Accepted.{accepted-right}
-use Rattle.digits.proofs.BigEndian.{ByteList}
+use Rattle.digits.proofs.Places.{ByteList}
 use Rattle.saved.proofs.Blocks.{held-back, has-codes, block-back, held-sound}
 use Rattle.saved.proofs.RoundTrip.{loaded-as-saved, opened-as-saved, saved-as-loaded, saved-as-opened, loaded-sound}
 use Rattle.trnadulek.specs.Block.{blockLoaded, loadBlockOf, openBlockOf, savedIf, saveBlockOf, saveBlockImageOf}

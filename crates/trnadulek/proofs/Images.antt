@@ -36,8 +36,8 @@ module _ (image m : List ℕ) (long : headSize ≤ length image) where
   front = length-take-le headSize image long
 
   -- the head is as it was
-  pub head-length : length (take headSize (returned image m)) ≡ headSize
-  head-length = rw (take-at (take headSize image) _ headSize front) front
+  pub front-length : length (take headSize (returned image m)) ≡ headSize
+  front-length = rw (take-at (take headSize image) _ headSize front) front
 
   pub head-room : headSize ≤ length (returned image m)
   head-room = rw length-append (omega (arith, front))
@@ -75,16 +75,16 @@ module _ (image : List ℕ) (l : Loaded) (opened : l ≡ openOf image .out) wher
     written s old r h size p saved =
         rw (head-fits-accepted s old (record { size-is = size; flags-low = p })) at (saved .leaves)
 
-    pub one-run : (b : ℕ) (w : Ran) (m h : List ℕ) (r : ℕ) → Gives (runOf b (l .cpu) (lent image)) w m
+    pub image-run : (b : ℕ) (w : Ran) (m h : List ℕ) (r : ℕ) → Gives (runOf b (l .cpu) (lent image)) w m
         → Gives (saveHeadOf (w .cpu) (take headSize (returned image m))) r h
         → ImageGives (runImageOf b image) (w .code) (h ++ drop headSize (returned image m)) (w .spent) (w .steps)
     unfolding runImageOf runImageIf imageRan imageOf memoryIn unlessRefused
-    one-run b w m h r ran saved =
+    image-run b w m h r ran saved =
         let long : headSize ≤ length image = omega (arith, size-is) in
         let now = rw (state-is, part-to-end image headSize) at ran in
         let low : w .cpu .f % 16 ≡ 0 =
         rw (now .answers) (run-low b (stateIn image) (drop headSize image) (loads-low imageSize image opens)) in
-        let head = written (w .cpu) _ r h (head-length image m long) low saved in
+        let head = written (w .cpu) _ r h (front-length image m long) low saved in
         rw opens
         (record {
           answers = rw (now .answers);

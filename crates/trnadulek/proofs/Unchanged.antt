@@ -24,7 +24,7 @@ use Rattle.saved.specs.Head.{headSize, imageSize, imageOf, stateIn, memoryIn}
 use Rattle.saved.specs.Refusals.{Accepted, loadCode}
 use Rattle.saved.specs.Answers.{stateIf, memoryIf, loadOf, loadedBy, loadHeadOf, openOf, leftBy, savedBy, saveHeadOf, saveImageOf}
 use Rattle.saved.proofs.Accepted.{accepted-right}
-use Rattle.digits.proofs.BigEndian.{ByteList}
+use Rattle.digits.proofs.Places.{ByteList}
 use Rattle.saved.proofs.Blocks.{block-back}
 use Rattle.saved.proofs.Refused.{refused-state, refused-left}
 use Rattle.saved.proofs.RoundTrip.{saved-as-opened}

@@ -1,6 +1,6 @@
 -- `save_head` writes a whole head where nothing is refused.
 use borrow.Author.Needs.{needs}
-use mathlib.Core.Path.{_≡_, sym, ap, _∙_}
+use mathlib.Core.Path.{_≡_, refl, sym, ap, _∙_}
 use native.Mathlib.Omega.{arith}
 use mathlib.Core.List.{_++_}
 use lib.ListN.{length, take, drop}
@@ -22,10 +22,6 @@ accepted c = omega arith
 
 fits : (c : tie.Then1) → let a = start c .args in HeadFits (a .cpu) (a .head .now)
 fits c = accepted-head-fits _ _ (accepted c)
-
-refused : (c : tie.Else1)
-    → let a = c .before .before .before .before .args in Accepted (saveHeadCode (a .cpu) (a .head .now)) → ⊥
-refused c e = omega arith
 
 copy-requires : tie.Need-copy-requires
 copy-requires c κs =
@@ -52,7 +48,7 @@ returns c =
 returns-2 : tie.Need-returns-2
 unfolding saveHeadOf savedBy
 returns-2 c =
-    record { answers = c .before .save-head-refusal .ensures; leaves = sym (refused-left _ (refused c) _ _) }
+    rw (← (c .before .save-head-refusal .ensures)) (record { answers = refl; leaves = sym (refused-left _ (c .if1 .left) _ _) })
 
 pub save-head-spec : {M : Type 1} → statement M
 save-head-spec =
