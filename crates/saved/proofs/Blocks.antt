@@ -1,7 +1,7 @@
 -- A state and its block, each made from the other.
 -- Assumes nothing.
 use Prim.Native.Nat.{ℕ, _<_}
-use mathlib.Core.Bool.{Bool, true, false, _&&_}
+use mathlib.Core.Bool.{true, and-eq-true-iff}
 use mathlib.Core.List.{List}
 use mathlib.Core.Path.{_≡_, refl, sym, _∙_}
 use native.Mathlib.Nat.{mod-lt}
@@ -14,13 +14,12 @@ use Rattle.arith.specs.Words.{highOf, lowOf}
 use Rattle.arith.proofs.Laws.{word-below, word-back, high-back, low-back}
 use Rattle.machine.specs.declared.Cpu.{Cpu}
 use Rattle.machine.proofs.Sound.{Sound}
-use Rattle.saved.specs.Digits.{byteIn}
+use Rattle.digits.specs.Digits.{byteIn}
 use Rattle.saved.specs.Codes.{imeCode, modeCode}
 use Rattle.saved.specs.Block.{blockSize, blockOf, flagsIn, imeCodeIn, modeCodeIn, hasCodes, heldIn}
-use Rattle.saved.proofs.Digits.{below-none, below-more}
-use Rattle.saved.proofs.BigEndian.{Bytes}
+use Rattle.digits.proofs.Digits.{below-none, below-more}
 use Rattle.saved.proofs.CodesBack.{ime-back, ime-most, ime-code-back, mode-back, mode-most, mode-code-back}
-use Rattle.saved.proofs.Places.{bytesAt, part-bytes}
+use Rattle.digits.proofs.Places.{ByteList, bytesAt, part-bytes}
 
 -- the block of a state holds that state
 
@@ -39,15 +38,10 @@ held-flags s = refl
 
 -- a block of bytes whose codes stand for something is the block of the state that it holds
 
-both : (x y : Bool) → x && y ≡ true → (x ≡ true) × (y ≡ true)
-both true y e = (refl, e)
-both false true e = (e, refl)
-both false false e = (e, e)
-
-pub block-back : (b : List ℕ) → length b ≡ blockSize → Bytes b → hasCodes b ≡ true → blockOf (heldIn b) ≡ b
+pub block-back : (b : List ℕ) → length b ≡ blockSize → ByteList b → hasCodes b ≡ true → blockOf (heldIn b) ≡ b
 unfolding heldIn hasCodes blockOf flagsIn imeCodeIn modeCodeIn byteIn bytesAt
 block-back b size bytes codes =
-    let most = both (leb (imeCodeIn b) 2) (leb (modeCodeIn b) 3) codes in
+    let most = and-eq-true-iff (leb (imeCodeIn b) 2) (leb (modeCodeIn b) 3) .0 codes in
     let ime = ime-code-back (imeCodeIn b) (leb-true _ _ (most .0)) in
     let mode = mode-code-back (modeCodeIn b) (leb-true _ _ (most .1)) in
     let whole = take-all blockSize b (omega (arith, size)) in
@@ -63,7 +57,7 @@ block-back b size bytes codes =
 
 -- a block's state is one as the code holds it, and a state's block is bytes
 
-pub held-sound : (b : List ℕ) → Bytes b → Sound (heldIn b)
+pub held-sound : (b : List ℕ) → ByteList b → Sound (heldIn b)
 unfolding heldIn flagsIn byteIn
 held-sound b bytes =
     record {
@@ -79,7 +73,7 @@ held-sound b bytes =
       pc = word-below _ _ (bytes .at 10) (bytes .at 11);
     }
 
-pub block-bytes : (s : Cpu) → Sound s → Bytes (blockOf s)
+pub block-bytes : (s : Cpu) → Sound s → ByteList (blockOf s)
 unfolding blockOf highOf lowOf
 block-bytes s p =
     let pos : 0 < 256 = lit< tt in

@@ -1,8 +1,5 @@
 -- Laws that belong to no one function.
-pub mod Digits
 pub mod CodesBack
-pub mod Places
-pub mod BigEndian
 pub mod Blocks
 pub mod Accepted
 pub mod Refused

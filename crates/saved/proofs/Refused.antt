@@ -2,27 +2,28 @@
 -- Assumes nothing.
 use Prim.Native.Nat.{ℕ, zero, suc}
 use mathlib.Core.List.{List, []}
+use mathlib.Core.Logic.{_≢_}
 use mathlib.Core.Path.{_≡_, refl}
-use Rattle.saved.specs.Block.{blank}
-use Rattle.saved.specs.Refusals.{Accepted}
-use Rattle.saved.specs.Answers.{stateIf, memoryIf, startIf, leftBy}
+use Rattle.arith.specs.Refusals.{unlessRefused}
+use Rattle.saved.specs.Block.{clearedState}
+use Rattle.saved.specs.Answers.{stateIf, memoryIf, leftBy}
 
-pub refused-state : (code : ℕ) (h : List ℕ) → (Accepted code → ⊥) → stateIf code h ≡ blank
-unfolding stateIf
-refused-state zero h p = absurd (p refl)
-refused-state (suc n) h p = refl
+-- of every answer that waits on a refusal
+pub refused-by : {A : Type 0} (code : ℕ) (next : Unit {0} → A) (refused : ℕ → A) → code ≢ 0
+    → unlessRefused code next refused ≡ refused code
+unfolding unlessRefused
+refused-by zero next refused p = absurd (p refl)
+refused-by (suc n) next refused p = refl
 
-pub refused-memory : (code : ℕ) (image : List ℕ) → (Accepted code → ⊥) → memoryIf code image ≡ []
-unfolding memoryIf
-refused-memory zero image p = absurd (p refl)
-refused-memory (suc n) image p = refl
+module _ (code : ℕ) (p : code ≢ 0) where
+  pub refused-state : (h : List ℕ) → stateIf code h ≡ clearedState
+  unfolding stateIf
+  refused-state h = refused-by code _ _ p
 
-pub refused-start : (code : ℕ) → (Accepted code → ⊥) → startIf code ≡ 0
-unfolding startIf
-refused-start zero p = absurd (p refl)
-refused-start (suc n) p = refl
+  pub refused-memory : (image : List ℕ) → memoryIf code image ≡ []
+  unfolding memoryIf
+  refused-memory image = refused-by code _ _ p
 
-pub refused-left : (code : ℕ) (new old : List ℕ) → (Accepted code → ⊥) → leftBy code new old ≡ old
-unfolding leftBy
-refused-left zero new old p = absurd (p refl)
-refused-left (suc n) new old p = refl
+  pub refused-left : (new old : List ℕ) → leftBy code new old ≡ old
+  unfolding leftBy
+  refused-left new old = refused-by code _ _ p

@@ -9,25 +9,25 @@ use native.Mathlib.Omega.{arith}
 use lib.Dec.{lit<}
 use lib.ListN.{length, take, drop, take-append-drop, length-drop, length-take}
 use lib.Seq.{take-all}
+use Rattle.arith.specs.Refusals.{unlessRefused}
 use Rattle.machine.specs.Memory.{memorySize}
 use Rattle.machine.specs.declared.Cpu.{Cpu}
 use Rattle.machine.proofs.Sound.{Sound}
-use Rattle.saved.specs.Digits.{valueOf, digitsOf, numberOf, bytesOf, byteIn, numberIn}
+use Rattle.digits.specs.Digits.{worthOf, digitsOf, numberOf, bytesOf, byteIn, numberIn}
 use Rattle.saved.specs.Block.{blockSize, blockOf, flagsIn, heldIn}
 use Rattle.saved.specs.Head.{headSize, imageSize, headOf, imageOf, memoryIn}
 use Rattle.saved.specs.Head.{versionIn, blockSizeIn, blockIn, memorySizeIn, stateIn}
 use Rattle.saved.specs.Refusals.{Accepted}
 use Rattle.saved.specs.Answers.{stateIf, memoryIf, loadedBy, loadOf, loadHeadOf, openOf, leftBy, savedBy, saveHeadOf, saveImageOf}
-use Rattle.saved.proofs.Digits.{digits-below, below-more, below-append}
-use Rattle.saved.proofs.BigEndian.{Bytes, bytes-back}
+use Rattle.digits.proofs.Digits.{digits-below, below-more, below-append}
 use Rattle.saved.proofs.Blocks.{held-back, has-codes, held-flags, block-back, held-sound, block-bytes}
-use Rattle.saved.proofs.Places.{bytesAt, part-bytes, bytes-at-length, bytes-at-below}
+use Rattle.digits.proofs.Places.{ByteList, bytes-back, bytesAt, part-bytes, bytes-at-length, bytes-at-below}
 use Rattle.saved.proofs.Accepted.{Right, accepted-right, right-accepted, accepted-head-fits, accepted-image-fits, head-fits-accepted, image-fits-accepted}
 use Rattle.saved.proofs.Written.{head-length, image-length}
 
 -- opens the layout of a head, written and read
 unfoldable layout : Unit {0}
-unfolding valueOf digitsOf numberOf bytesOf blockOf headOf byteIn numberIn versionIn blockSizeIn blockIn memorySizeIn stateIn memoryIn
+unfolding worthOf digitsOf numberOf bytesOf blockOf headOf byteIn numberIn versionIn blockSizeIn blockIn memorySizeIn stateIn memoryIn
 layout = tt
 
 -- a head that is made from a state, with anything behind it
@@ -59,7 +59,7 @@ module _ (s : Cpu) (behind : List ℕ) where
 
   made-load : (size : ℕ) → length (headOf s ++ behind) ≡ size → s .f % 16 ≡ 0 → Sound s
       → loadOf size (headOf s ++ behind) ≡ record { code = 0; cpu = s }
-  unfolding loadOf loadedBy stateIf
+  unfolding loadOf loadedBy stateIf unlessRefused
   made-load size p q sound = rw (right-accepted size _ (made-right size p q), made-state sound)
 
 -- a head that is read, and made again from the state that was read
@@ -73,14 +73,14 @@ unfolding blockIn
 read-block h long = part-bytes blockSize 5 h (omega arith)
 
 -- the block of the state that was read is the block that is there
-block-again : (size : ℕ) (h : List ℕ) → headSize ≤ length h → Bytes h → Right size h
+block-again : (size : ℕ) (h : List ℕ) → headSize ≤ length h → ByteList h → Right size h
     → blockOf (stateIn h) ≡ bytesAt blockSize 5 h
 unfolding stateIn
 block-again size h long bytes right =
     let there = read-block h long in
     rw there (block-back _ (bytes-at-length blockSize 5 h) (bytes-at-below blockSize 5 h bytes) (rw there at (right .has-codes)))
 
-made-again : (size : ℕ) (h : List ℕ) → headSize ≤ length h → Bytes h → Right size h → headOf (stateIn h) ≡ take headSize h
+made-again : (size : ℕ) (h : List ℕ) → headSize ≤ length h → ByteList h → Right size h → headOf (stateIn h) ≡ take headSize h
 unfolding headOf versionIn blockSizeIn memorySizeIn byteIn bytesAt
 made-again size h long bytes right =
     let version = sym (right .version-is) in
@@ -93,7 +93,7 @@ made-again size h long bytes right =
 
 pub loaded-as-saved : (s : Cpu) (h : List ℕ) → Sound s → Accepted (saveHeadOf s h .out)
     → loadHeadOf (saveHeadOf s h .mem) ≡ record { code = 0; cpu = s }
-unfolding saveHeadOf savedBy leftBy loadHeadOf
+unfolding saveHeadOf savedBy leftBy loadHeadOf unlessRefused
 loaded-as-saved s h sound accepted =
     let fits = accepted-head-fits s h accepted in
     let whole = append-nil (headOf s) in
@@ -104,7 +104,7 @@ loaded-as-saved s h sound accepted =
 
 pub opened-as-saved : (s : Cpu) (m image : List ℕ) → Sound s → Accepted (saveImageOf s m image .out)
     → openOf (saveImageOf s m image .mem) ≡ record { out = record { code = 0; cpu = s }; mem = m }
-unfolding saveImageOf savedBy leftBy imageOf openOf memoryIf
+unfolding saveImageOf savedBy leftBy imageOf openOf memoryIf unlessRefused
 opened-as-saved s m image sound accepted =
     let fits = accepted-image-fits s m image accepted in
     let size = image-length s m (fits .memory-is) in
@@ -113,9 +113,9 @@ opened-as-saved s m image sound accepted =
 
 -- a save of a load writes the same head again
 
-pub saved-as-loaded : (h old : List ℕ) → Bytes h → Accepted (loadHeadOf h .code) → length old ≡ headSize
+pub saved-as-loaded : (h old : List ℕ) → ByteList h → Accepted (loadHeadOf h .code) → length old ≡ headSize
     → saveHeadOf (loadHeadOf h .cpu) old ≡ record { out = 0; mem = h }
-unfolding loadHeadOf loadOf loadedBy stateIf saveHeadOf savedBy leftBy
+unfolding loadHeadOf loadOf loadedBy stateIf saveHeadOf savedBy leftBy unlessRefused
 saved-as-loaded h old bytes accepted size =
     let right = accepted-right headSize h accepted in
     let fits = head-fits-accepted (stateIn h) old (record { size-is = size; flags-low = rw read-flags (right .flags-low) }) in
@@ -125,9 +125,9 @@ saved-as-loaded h old bytes accepted size =
 
 -- and the same image
 
-pub saved-as-opened : (image old : List ℕ) → Bytes image → Accepted (openOf image .out .code) → length old ≡ imageSize
+pub saved-as-opened : (image old : List ℕ) → ByteList image → Accepted (openOf image .out .code) → length old ≡ imageSize
     → saveImageOf (openOf image .out .cpu) (openOf image .mem) old ≡ record { out = 0; mem = image }
-unfolding openOf loadOf loadedBy stateIf memoryIf memoryIn saveImageOf savedBy leftBy imageOf
+unfolding openOf loadOf loadedBy stateIf memoryIf memoryIn saveImageOf savedBy leftBy imageOf unlessRefused
 saved-as-opened image old bytes accepted size =
     let right = accepted-right imageSize image accepted in
     let long : headSize ≤ length image = omega (arith, right .size-is) in
@@ -139,14 +139,14 @@ saved-as-opened image old bytes accepted size =
 
 -- what is saved is bytes, and what is loaded is a state as the code holds one
 
-pub saved-bytes : (s : Cpu) → Sound s → Bytes (headOf s)
+pub saved-bytes : (s : Cpu) → Sound s → ByteList (headOf s)
 unfolding headOf bytesOf
 saved-bytes s p =
     below-more (lit< tt)
     (below-append _ (digits-below (lit< tt) 4 blockSize)
     (below-append _ (block-bytes s p) (digits-below (lit< tt) 4 memorySize)))
 
-pub loaded-sound : (h : List ℕ) → headSize ≤ length h → Bytes h → Sound (stateIn h)
+pub loaded-sound : (h : List ℕ) → headSize ≤ length h → ByteList h → Sound (stateIn h)
 unfolding stateIn
 loaded-sound h long bytes =
     rw (read-block h long)

@@ -7,7 +7,6 @@ use Rattle.arith.proofs.Unique.{same, OneAnswer, OneOutcome}
 use Rattle.machine.proofs.Unique.{gives-one}
 use Rattle.saved.proofs.codes.ime_code.Reads as ime-code
 use Rattle.saved.proofs.codes.mode_code.Reads as mode-code
-use Rattle.saved.proofs.numbers.number.Reads as number
 use Rattle.saved.proofs.block.bytes_of.Reads as bytes-of
 use Rattle.saved.proofs.block.has_codes.Reads as has-codes
 use Rattle.saved.proofs.block.state_of.Reads as state-of
@@ -22,9 +21,6 @@ ime-code-unique _ _ _ _ _ _ = same
 
 pub mode-code-unique : OneAnswer mode-code.Post
 mode-code-unique _ _ _ _ _ _ = same
-
-pub number-unique : OneAnswer number.Post
-number-unique _ _ _ _ _ _ = same
 
 pub bytes-of-unique : OneAnswer bytes-of.Post
 bytes-of-unique _ _ _ _ _ _ = same

@@ -1,26 +1,25 @@
 -- What loading and saving answer, and what a save leaves in the slice that it was lent. Document 01, "Saved state" and
 -- "Refusal numbers".
 -- Assumes nothing.
-use Prim.Native.Nat.{ℕ, zero, suc, _+_}
+use Prim.Native.Nat.{ℕ, _+_}
 use mathlib.Core.List.{List, []}
 use mathlib.Core.Path.{_≡_}
 use denote.Ref.{RefT, now, ptr}
+use Rattle.arith.specs.Refusals.{unlessRefused}
 use Rattle.machine.specs.Answers.{With}
 use Rattle.machine.specs.declared.Cpu.{Cpu}
-use Rattle.saved.specs.Block.{blank}
+use Rattle.saved.specs.Block.{clearedState}
 use Rattle.saved.specs.Head.{headSize, imageSize, headOf, imageOf, stateIn, memoryIn}
 use Rattle.saved.specs.Refusals.{loadCode, saveHeadCode, saveImageCode}
 use Rattle.saved.specs.declared.Loaded.{Loaded}
 
 -- a state where nothing is refused, and the all-zero state where something is
 unfoldable pub stateIf : ℕ → List ℕ → Cpu
-stateIf zero h = stateIn h
-stateIf (suc n) h = blank
+stateIf code h = unlessRefused code (λ _. stateIn h) (λ _. clearedState)
 
 -- the memory where nothing is refused, and an empty part where something is
 unfoldable pub memoryIf : ℕ → List ℕ → List ℕ
-memoryIf zero image = memoryIn image
-memoryIf (suc n) image = []
+memoryIf code image = unlessRefused code (λ _. memoryIn image) (λ _. [])
 
 unfoldable pub loadedBy : ℕ → List ℕ → Loaded
 loadedBy code h = record { code = code; cpu = stateIf code h }
@@ -38,8 +37,7 @@ openOf image = record { out = loadOf imageSize image; mem = memoryIf (loadCode i
 
 -- where the memory starts in an image: after the head, and at the front where the part is empty
 unfoldable pub startIf : ℕ → ℕ
-startIf zero = headSize
-startIf (suc n) = 0
+startIf code = unlessRefused code (λ _. headSize) (λ _. 0)
 
 -- r is the memory of a lent image: it holds those bytes, and it lies there in the image
 pub record MemoryOf (image r : RefT (List ℕ)) : Type 0 where
@@ -48,8 +46,7 @@ pub record MemoryOf (image r : RefT (List ℕ)) : Type 0 where
 
 -- a save that is refused leaves what was there
 unfoldable pub leftBy : ℕ → List ℕ → List ℕ → List ℕ
-leftBy zero new old = new
-leftBy (suc n) new old = old
+leftBy code new old = unlessRefused code (λ _. new) (λ _. old)
 
 unfoldable pub savedBy : ℕ → List ℕ → List ℕ → With ℕ
 savedBy code new old = record { out = code; mem = leftBy code new old }

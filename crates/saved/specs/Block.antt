@@ -9,7 +9,7 @@ use Rattle.machine.specs.State.{cpuOf}
 use Rattle.machine.specs.declared.Cpu.{Cpu}
 use Rattle.machine.specs.declared.Ime.the-variants.{Off}
 use Rattle.machine.specs.declared.Mode.the-variants.{Running}
-use Rattle.saved.specs.Digits.{byteIn}
+use Rattle.digits.specs.Digits.{byteIn}
 use Rattle.saved.specs.Codes.{imeCode, imeAt, modeCode, modeAt}
 
 abbrev pub blockSize : ℕ
@@ -43,5 +43,5 @@ heldIn b =
     (wordOf (byteIn 8 b) (byteIn 9 b)) (wordOf (byteIn 10 b) (byteIn 11 b)) (imeAt (imeCodeIn b)) (modeAt (modeCodeIn b))
 
 -- the all-zero state, Off and Running
-unfoldable pub blank : Cpu
-blank = cpuOf 0 0 0 0 0 0 0 0 0 0 Off Running
+unfoldable pub clearedState : Cpu
+clearedState = cpuOf 0 0 0 0 0 0 0 0 0 0 Off Running

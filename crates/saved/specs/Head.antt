@@ -1,14 +1,14 @@
 -- A head and an image, byte by byte, and the block and the memory in them. Document 01, "Saved state".
 -- Assumes nothing.
-use Prim.Native.Nat.{ℕ}
+use Prim.Native.Nat.{ℕ, _+_}
 use mathlib.Core.List.{List, _∷_, _++_}
 use lib.ListN.{take, drop}
 use Rattle.machine.specs.Memory.{Memory, memorySize}
 use Rattle.machine.specs.declared.Cpu.{Cpu}
-use Rattle.saved.specs.Digits.{bytesOf, byteIn, numberIn}
+use Rattle.digits.specs.Digits.{bytesOf, byteIn, numberIn}
 use Rattle.saved.specs.Block.{blockSize, blockOf, heldIn}
 
--- the version, and every length: the head ends with the memory's length
+-- the version, and the sizes of a head and of an image, which is a head and the memory
 abbrev pub version : ℕ
 version = 1
 
@@ -16,7 +16,7 @@ abbrev pub headSize : ℕ
 headSize = 23
 
 abbrev pub imageSize : ℕ
-imageSize = 65559
+imageSize = headSize + memorySize
 
 -- version 1; the block's length in four bytes; the block; the memory's length in four bytes
 unfoldable pub headOf : Cpu → List ℕ

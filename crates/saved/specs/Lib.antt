@@ -1,5 +1,4 @@
 -- The definition of the saved state. Read in this order; the state itself is defined in the crate machine.
-pub mod Digits
 pub mod Codes
 pub mod Block
 pub mod Head

@@ -5,7 +5,7 @@ use machine::Cpu;
 use machine::Ime;
 use machine::Mode;
 ghost use mathlib.Core.Path.{_≡_};
-ghost use Rattle.saved.specs.Block.{blockOf, hasCodes, heldIn, blank};
+ghost use Rattle.saved.specs.Block.{blockOf, hasCodes, heldIn, clearedState};
 
 // The block of a state.
 pub fn bytes_of(cpu: Cpu) -> [u8; 14]
@@ -69,8 +69,8 @@ pub fn state_of(block: &[u8; 14]) -> Cpu
 }
 
 // The all-zero state.
-pub(crate) fn blank_state() -> Cpu
-    ensures { λ r. ⌜ r ≡ blank ⌝ }
+pub(crate) fn cleared_state() -> Cpu
+    ensures { λ r. ⌜ r ≡ clearedState ⌝ }
 {
     Cpu {
         a: 0,

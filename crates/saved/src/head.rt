@@ -1,11 +1,12 @@
 // A head, byte by byte: made from a state, and read.
 use crate::block;
-use crate::numbers;
+use digits::numbers;
 use machine::Cpu;
 ghost use mathlib.Core.Path.{_≡_};
-ghost use Prim.Native.Nat.{_≤_};
+ghost use Prim.Native.Nat.{_+_, _≤_};
 ghost use lib.ListN.{length};
 ghost use Rattle.arith.specs.Refusals.{codeOf};
+ghost use Rattle.digits.specs.Digits.{numberIn};
 ghost use Rattle.saved.specs.Head.{headSize, headOf, blockIn, stateIn};
 ghost use Rattle.saved.specs.Refusals.{flagsRefusals, contentRefusals, loadCode};
 
@@ -87,6 +88,14 @@ pub(crate) fn state_in(head: &[u8]) -> Cpu
     block::state_of(&block)
 }
 
+// The number that stands at a place.
+fn number_at(bytes: &[u8], at: usize) -> u32
+    requires { ⌜ at + 4 ≤ length (now bytes) ⌝ }
+    ensures { λ r. ⌜ r ≡ numberIn 4 at (now (bytes .entry)) ⌝ }
+{
+    numbers::number(bytes[at], bytes[at + 1], bytes[at + 2], bytes[at + 3])
+}
+
 // Refusal 2.
 pub(crate) fn flags_refusal(f: u8) -> u8
     ensures { λ r. ⌜ r ≡ codeOf (flagsRefusals f) ⌝ }
@@ -102,10 +111,10 @@ fn content_refusal(head: &[u8]) -> u8
     if head[0] != VERSION {
         return 7;
     }
-    if numbers::number_at(head, 1) != BLOCK_LENGTH {
+    if number_at(head, 1) != BLOCK_LENGTH {
         return 8;
     }
-    if numbers::number_at(head, 19) != MEMORY_LENGTH {
+    if number_at(head, 19) != MEMORY_LENGTH {
         return 8;
     }
     let block = block_in(head);

@@ -2,7 +2,6 @@
 pub mod block;
 pub mod codes;
 mod head;
-pub mod numbers;
 
 use machine::Cpu;
 ghost use mathlib.Core.Path.{_≡_};
@@ -28,7 +27,7 @@ fn load(bytes: &[u8], size: usize) -> Loaded
         let cpu = head::state_in(bytes);
         Loaded { code, cpu }
     } else {
-        let cpu = block::blank_state();
+        let cpu = block::cleared_state();
         Loaded { code, cpu }
     }
 }

@@ -8,13 +8,15 @@ use native.Mathlib.Nat.{not-suc-le-zero, le-of-suc-le-suc}
 use native.Mathlib.Numerals.{add-one}
 use native.Mathlib.Omega.{arith}
 use borrow.Author.Tests.{lt-ltb}
-use lib.Dec.{leb}
 use lib.ListN.{length, take, set, length-set, length-append}
+use Rattle.digits.specs.Digits.{digitsOf}
+use Rattle.digits.specs.Ascii.{ascii}
+use Rattle.digits.specs.Numerals.{hexText}
+use Rattle.digits.proofs.Decimal.{decimal-most}
 use Rattle.machine.specs.declared.Cpu.{Cpu}
 use Rattle.machine.specs.declared.Ran.{Ran}
 use Rattle.saved.specs.Codes.{imeCode, modeCode}
-use Rattle.text.specs.Digits.{digitIf, digitAt, decimalFrom, decimalOf, hexOf}
-use Rattle.text.specs.Written.{room, blank, pushedIf, pushed, written}
+use Rattle.text.specs.Written.{room, emptyText, pushedIf, pushed, written}
 use Rattle.text.specs.Answer.{header, numberThen, wordThen, refusalLine, registersLine, runLine, lineIf, printed}
 use Rattle.text.specs.declared.Text.{Text}
 use Rattle.text.proofs.Texts.{written-append}
@@ -56,26 +58,12 @@ written-whole (b ∷ bs) t size fits =
 
 -- how long the parts of a line are
 
-digit-most : (p n : ℕ) (b : Bool) → length (digitIf b p n) ≤ 1
-unfolding digitIf
-digit-most p n true = omega arith
-digit-most p n false = omega arith
-
-decimal-from-most : (ps : List ℕ) (n : ℕ) → length (decimalFrom ps n) ≤ length ps + 1
-unfolding decimalFrom digitAt
-decimal-from-most [] n = omega arith
-decimal-from-most (p ∷ ps) n = rw length-append (omega (arith, digit-most p n (leb p n), decimal-from-most ps n))
-
-pub decimal-most : (n : ℕ) → length (decimalOf n) ≤ 10
-unfolding decimalOf
-decimal-most n = decimal-from-most _ n
-
 number-most : (n : ℕ) → length (numberThen n) ≤ 11
 unfolding numberThen
 number-most n = rw length-append (omega (arith, decimal-most n))
 
 registers-length : (s : Cpu) → length (registersLine s) ≡ 30
-unfolding registersLine wordThen hexOf
+unfolding registersLine wordThen hexText digitsOf
 registers-length s = refl
 
 run-line-most : (r : Ran) → length (runLine r) ≤ 85
@@ -102,16 +90,16 @@ line-most true r = omega (arith, refusal-line-most (r .code))
 line-most false r = run-line-most r
 
 header-length : length header ≡ 44
-unfolding header
+unfolding ascii header
 header-length = refl
 
 -- the two lines, whole
 
 printed-whole : (line : List ℕ) → length line ≤ 85 → toldBy (printed line) ≡ header ++ line
-unfolding printed blank
+unfolding printed emptyText
 printed-whole line most =
-    rw (← (written-append header line blank))
-    (written-whole (header ++ line) blank refl (rw (length-append, header-length) (omega arith)))
+    rw (← (written-append header line emptyText))
+    (written-whole (header ++ line) emptyText refl (rw (length-append, header-length) (omega arith)))
 
 pub two-lines : (bare : Bool) (r : Ran) → toldBy (printed (lineIf bare r)) ≡ header ++ lineIf bare r
 two-lines bare r = printed-whole _ (line-most bare r)

@@ -1,6 +1,5 @@
 -- What the proofs share, and laws about the definition.
 pub mod Texts
 pub mod Ends
-pub mod Decimal
 pub mod Fits
 pub mod Unique

@@ -1,40 +1,52 @@
 -- The program: from its input, 65,563 bytes, to the two lines that it prints. Document 01, "The program".
 -- The input is a budget in four bytes and a head, which are the 27 bytes of the lead, and the memory.
 -- Assumes nothing.
-use Prim.Native.Nat.{ℕ, zero, suc}
+use Prim.Native.Nat.{ℕ, _+_}
 use mathlib.Core.Bool.{Bool, true, false, _||_, _&&_}
 use mathlib.Core.List.{List, [], _∷_, _++_}
 use lib.Dec.{eqb}
 use lib.ListN.{length, drop}
+use Rattle.arith.specs.Refusals.{unlessRefused}
 use Rattle.arith.specs.Words.{wordOf}
+use Rattle.digits.specs.Digits.{numberIn}
+use Rattle.digits.specs.Ascii.{ascii, space, newline}
+use Rattle.digits.specs.Numerals.{hexText, decimalText}
+use Rattle.machine.specs.Memory.{memorySize}
 use Rattle.machine.specs.Answers.{With, keeping}
 use Rattle.machine.specs.Run.{runOf}
 use Rattle.machine.specs.declared.Cpu.{Cpu}
 use Rattle.machine.specs.declared.Ran.{Ran}
 use Rattle.saved.specs.Answers.{loadHeadOf}
 use Rattle.saved.specs.Codes.{imeCode, modeCode}
-use Rattle.saved.specs.Digits.{numberIn}
+use Rattle.saved.specs.Head.{headSize}
 use Rattle.saved.specs.declared.Loaded.{Loaded}
-use Rattle.text.specs.Digits.{decimalOf, hexOf}
-use Rattle.text.specs.Written.{blank, written}
+use Rattle.text.specs.Written.{emptyText, written}
 use Rattle.text.specs.declared.Text.{Text}
 
--- "code spent steps AF BC DE HL SP PC ime mode", and the line's end
+-- the sizes of its parts, and its own
+abbrev pub budgetSize : ℕ
+budgetSize = 4
+
+abbrev pub leadSize : ℕ
+leadSize = budgetSize + headSize
+
+abbrev pub inputSize : ℕ
+inputSize = leadSize + memorySize
+
+-- the first line
 unfoldable pub header : List ℕ
-header =
-    99 ∷ 111 ∷ 100 ∷ 101 ∷ 32 ∷ 115 ∷ 112 ∷ 101 ∷ 110 ∷ 116 ∷ 32 ∷ 115 ∷ 116 ∷ 101 ∷ 112 ∷ 115 ∷ 32 ∷ 65 ∷ 70 ∷ 32 ∷ 66 ∷ 67
-    ∷ 32 ∷ 68 ∷ 69 ∷ 32 ∷ 72 ∷ 76 ∷ 32 ∷ 83 ∷ 80 ∷ 32 ∷ 80 ∷ 67 ∷ 32 ∷ 105 ∷ 109 ∷ 101 ∷ 32 ∷ 109 ∷ 111 ∷ 100 ∷ 101 ∷ 10 ∷ []
+header = ascii "code spent steps AF BC DE HL SP PC ime mode" ++ (newline ∷ [])
 
 -- a number and a space, a word and a space
 unfoldable pub numberThen : ℕ → List ℕ
-numberThen n = decimalOf n ++ (32 ∷ [])
+numberThen n = decimalText n ++ (space ∷ [])
 
 unfoldable pub wordThen : ℕ → List ℕ
-wordThen w = hexOf w ++ (32 ∷ [])
+wordThen w = hexText 4 w ++ (space ∷ [])
 
 -- the code alone
 unfoldable pub refusalLine : ℕ → List ℕ
-refusalLine code = decimalOf code ++ (10 ∷ [])
+refusalLine code = decimalText code ++ (newline ∷ [])
 
 -- AF to PC
 unfoldable pub registersLine : Cpu → List ℕ
@@ -49,7 +61,7 @@ runLine r =
     numberThen (r .code)
     ++ (numberThen (r .spent)
     ++ (numberThen (r .steps)
-    ++ (registersLine (r .cpu) ++ (numberThen (imeCode (r .cpu .ime)) ++ (decimalOf (modeCode (r .cpu .mode)) ++ (10 ∷ []))))))
+    ++ (registersLine (r .cpu) ++ (numberThen (imeCode (r .cpu .ime)) ++ (decimalText (modeCode (r .cpu .mode)) ++ (newline ∷ []))))))
 
 -- a run that answers 1, 2 or 5 prints its code alone
 unfoldable pub isBare : ℕ → Bool
@@ -60,7 +72,7 @@ lineIf true r = refusalLine (r .code)
 lineIf false r = runLine r
 
 unfoldable pub printed : List ℕ → Text
-printed line = written line (written header blank)
+printed line = written line (written header emptyText)
 
 unfoldable pub ranText : Ran → Text
 ranText r = printed (lineIf (isBare (r .code)) r)
@@ -70,15 +82,14 @@ unfoldable pub ranOf : With Ran → With Text
 ranOf w = record { out = ranText (w .out); mem = w .mem }
 
 unfoldable pub loadedRun : ℕ → Cpu → ℕ → List ℕ → With Text
-loadedRun zero s budget m = ranOf (runOf budget s m)
-loadedRun (suc n) s budget m = keeping (printed (refusalLine (suc n))) m
+loadedRun code s budget m = unlessRefused code (λ _. ranOf (runOf budget s m)) (λ n. keeping (printed (refusalLine n)) m)
 
 -- an input of the right length, or 6
 unfoldable pub answerIf : Bool → List ℕ → List ℕ → With Text
 answerIf true lead m =
-    loadedRun (loadHeadOf (drop 4 lead) .code) (loadHeadOf (drop 4 lead) .cpu) (numberIn 4 0 lead) m
+    loadedRun (loadHeadOf (drop budgetSize lead) .code) (loadHeadOf (drop budgetSize lead) .cpu) (numberIn budgetSize 0 lead) m
 answerIf false lead m = keeping (printed (refusalLine 6)) m
 
 -- the lead and the memory, and how many bytes the input has
 unfoldable pub answerOf : ℕ → List ℕ → List ℕ → With Text
-answerOf got lead m = answerIf (eqb got 65563 && eqb (length lead) 27) lead m
+answerOf got lead m = answerIf (eqb got inputSize && eqb (length lead) leadSize) lead m

@@ -1,4 +1,3 @@
 -- What the program prints. Read in this order.
-pub mod Digits
 pub mod Written
 pub mod Answer

@@ -11,8 +11,8 @@ use Rattle.text.specs.declared.Text.{Text}
 abbrev pub room : ℕ
 room = 160
 
-unfoldable pub blank : Text
-blank = record { bytes = replicate room 0; len = 0 }
+unfoldable pub emptyText : Text
+emptyText = record { bytes = replicate room 0; len = 0 }
 
 -- one byte more; a full text stays as it is
 unfoldable pub pushedIf : Bool → ℕ → Text → Text

@@ -1,20 +1,26 @@
 // What the program answers to its input.
 use crate::Text;
+use crate::writing::NEWLINE;
 use arith::words;
+use digits::numbers;
 use machine::Cpu;
 use machine::Ran;
 use machine::run;
 use saved::codes;
-use saved::numbers;
 ghost use mathlib.Core.Path.{_≡_};
 ghost use mathlib.Core.List.{_++_};
 ghost use Rattle.machine.specs.Answers.{Gives};
 ghost use Rattle.text.specs.Written.{written};
 ghost use Rattle.text.specs.Answer.{refusalLine, registersLine, runLine, isBare, lineIf, printed, ranText, answerOf};
 
+// The bytes of the input, and of the budget and the head that lead it.
+const INPUT_SIZE: usize = 65_563;
+
+const LEAD_SIZE: usize = 27;
+
 // A text that begins with the header line.
 fn header() -> Text
-    ensures { λ r. ⌜ r ≡ written Rattle.text.specs.Answer.header Rattle.text.specs.Written.blank ⌝ }
+    ensures { λ r. ⌜ r ≡ written Rattle.text.specs.Answer.header Rattle.text.specs.Written.emptyText ⌝ }
 {
     Text::new().append(b"code spent steps AF BC DE HL SP PC ime mode\n")
 }
@@ -23,7 +29,7 @@ fn header() -> Text
 fn refusal(code: u8) -> Text
     ensures { λ r. ⌜ r ≡ printed (refusalLine code) ⌝ }
 {
-    header().decimal(code as u32).push(10)
+    header().decimal(code as u32).push(NEWLINE)
 }
 
 impl Text {
@@ -54,7 +60,7 @@ fn line(r: Ran) -> Text
         .registers(s)
         .number(codes::ime_code(ime) as u32)
         .decimal(codes::mode_code(mode) as u32)
-        .push(10)
+        .push(NEWLINE)
 }
 
 fn is_bare(code: u8) -> bool
@@ -78,10 +84,10 @@ fn ran(r: Ran) -> Text
 pub fn answer(got: usize, lead: &[u8], mem: &mut [u8]) -> Text
     ensures { λ r. ⌜ Gives (answerOf got (now (lead .entry)) (now (mem .entry))) r (now (mem .exit)) ⌝ }
 {
-    if got != 65563 {
+    if got != INPUT_SIZE {
         return refusal(6);
     }
-    if lead.len() != 27 {
+    if lead.len() != LEAD_SIZE {
         return refusal(6);
     }
     let budget = numbers::number(lead[0], lead[1], lead[2], lead[3]);

@@ -1,6 +1,6 @@
 // The program's input and output: from the bytes it reads to the two lines it prints.
 pub mod answer;
-mod digits;
+mod writing;
 
 // A text that grows: its bytes, and how many there are.
 pub struct Text {

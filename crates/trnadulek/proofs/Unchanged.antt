@@ -11,18 +11,20 @@ use lib.Dec.{eqb, leb}
 use lib.ListN.{length, replicate}
 use borrow.Author.Tests.{eqb-true, eqb-false, leb-true, leb-false}
 use Rattle.machine.specs.Answers.{With}
-use Rattle.machine.specs.Run.{ending, runOf}
+use Rattle.machine.specs.Memory.{memorySize}
+use Rattle.machine.specs.Run.{largestBudget, ending, runOf}
 use Rattle.machine.specs.declared.Cpu.{Cpu}
 use Rattle.machine.proofs.Refused.{step-unmoved}
 use Rattle.machine.proofs.Runs.{Valid, run-unfit, run-flags, run-budget, run-valid, run-code}
+use Rattle.arith.specs.Refusals.{unlessRefused}
 use Rattle.arith.specs.Words.{highOf, lowOf}
 use Rattle.saved.specs.Codes.{imeCode, modeCode}
-use Rattle.saved.specs.Block.{blockSize, blockOf, heldIn, hasCodes, blank}
+use Rattle.saved.specs.Block.{blockSize, blockOf, heldIn, hasCodes, clearedState}
 use Rattle.saved.specs.Head.{headSize, imageSize, imageOf, stateIn, memoryIn}
 use Rattle.saved.specs.Refusals.{Accepted, loadCode}
 use Rattle.saved.specs.Answers.{stateIf, memoryIf, loadOf, loadedBy, loadHeadOf, openOf, leftBy, savedBy, saveHeadOf, saveImageOf}
 use Rattle.saved.proofs.Accepted.{accepted-right}
-use Rattle.saved.proofs.BigEndian.{Bytes}
+use Rattle.digits.proofs.Places.{ByteList}
 use Rattle.saved.proofs.Blocks.{block-back}
 use Rattle.saved.proofs.Refused.{refused-state, refused-left}
 use Rattle.saved.proofs.RoundTrip.{saved-as-opened}
@@ -35,7 +37,7 @@ record NotBegun (b : ℕ) (s : Cpu) (m : List ℕ) : Type 0 where
   pub is : runOf b s m ≡ ending number 0 0 s m
 
 module _ (b : ℕ) (s : Cpu) (m : List ℕ) where
-  by-tests : (l f p : Bool) → eqb (length m) 65536 ≡ l → eqb (s .f % 16) 0 ≡ f → leb b 1048576 ≡ p
+  by-tests : (l f p : Bool) → eqb (length m) memorySize ≡ l → eqb (s .f % 16) 0 ≡ f → leb b largestBudget ≡ p
       → runOf b s m .out .code ≢ 0 → runOf b s m .out .code ≢ 3 → runOf b s m .out .code ≢ 4 → NotBegun b s m
   by-tests false f p l g q n0 n3 n4 = record { number = 1; is = run-unfit b s m (eqb-false _ _ l) }
   by-tests true false p l g q n0 n3 n4 = record { number = 2; is = run-flags b s m (eqb-true _ _ l) (eqb-false _ _ g) }
@@ -59,7 +61,7 @@ pub record StepLeaves (b m : List ℕ) (w : BlockStep) : Type 0 where
   pub memory : w .memory ≡ m
   pub cycles : w .cycles ≡ 0
 
-module _ (b m : List ℕ) (size : length b ≡ blockSize) (bytes : Bytes b) where
+module _ (b m : List ℕ) (size : length b ≡ blockSize) (bytes : ByteList b) where
   step-by : (t : Bool) → hasCodes b ≡ t → stepIf t b m .code ≢ 0 → StepLeaves b m (stepIf t b m)
   unfolding stepIf blockStepped
   step-by true codes refused =
@@ -83,7 +85,7 @@ pub record RunLeaves (b m : List ℕ) (w : BlockRun) : Type 0 where
   pub spent : w .spent ≡ 0
   pub steps : w .steps ≡ 0
 
-module _ (budget : ℕ) (b m : List ℕ) (size : length b ≡ blockSize) (bytes : Bytes b) where
+module _ (budget : ℕ) (b m : List ℕ) (size : length b ≡ blockSize) (bytes : ByteList b) where
   run-by : (t : Bool) → hasCodes b ≡ t → runIf t budget b m .code ≢ 0 → runIf t budget b m .code ≢ 3
       → runIf t budget b m .code ≢ 4 → RunLeaves b m (runIf t budget b m)
   unfolding runIf blockRan
@@ -105,17 +107,17 @@ pub record ImageLeaves (image : List ℕ) (w : ImageRun) : Type 0 where
   pub steps : w .steps ≡ 0
 
 -- the image of the state and the memory in an image that opens is that image
-same-image : (image : List ℕ) → Bytes image → Accepted (loadCode imageSize image) → imageOf (stateIn image) (memoryIn image) ≡ image
-unfolding openOf loadOf loadedBy stateIf memoryIf saveImageOf savedBy leftBy
+same-image : (image : List ℕ) → ByteList image → Accepted (loadCode imageSize image) → imageOf (stateIn image) (memoryIn image) ≡ image
+unfolding openOf loadOf loadedBy stateIf memoryIf saveImageOf savedBy leftBy unlessRefused
 same-image image bytes accepted =
     let whole = rw accepted at (saved-as-opened image image bytes accepted (accepted-right imageSize image accepted .size-is)) in
     let written = ap (λ (w : With ℕ). w .out) whole in
     rw written at (ap (λ (w : With ℕ). w .mem) whole)
 
-module _ (budget : ℕ) (image : List ℕ) (bytes : Bytes image) where
+module _ (budget : ℕ) (image : List ℕ) (bytes : ByteList image) where
   image-by : (n : ℕ) → loadCode imageSize image ≡ n → runImageIf n budget image .code ≢ 0 → runImageIf n budget image .code ≢ 3
       → runImageIf n budget image .code ≢ 4 → ImageLeaves image (runImageIf n budget image)
-  unfolding runImageIf imageRan
+  unfolding runImageIf imageRan unlessRefused
   image-by zero opens n0 n3 n4 =
       let told = not-begun budget (stateIn image) (memoryIn image) n0 n3 n4 in
       rw (told .is) (record { image-is = same-image image bytes opens; spent = refl; steps = refl })
@@ -128,13 +130,13 @@ module _ (budget : ℕ) (image : List ℕ) (bytes : Bytes image) where
 
 -- loads
 
-pub zeros : blockOf blank ≡ replicate blockSize 0
-unfolding blank blockOf highOf lowOf imeCode modeCode
+pub zeros : blockOf clearedState ≡ replicate blockSize 0
+unfolding clearedState blockOf highOf lowOf imeCode modeCode
 zeros = refl
 
 load-zeros : (size : ℕ) (h : List ℕ) → loadOf size h .code ≢ 0 → blockOf (loadOf size h .cpu) ≡ replicate blockSize 0
 unfolding loadOf loadedBy
-load-zeros size h refused = rw (refused-state (loadCode size h) h refused) zeros
+load-zeros size h refused = rw (refused-state (loadCode size h) refused) zeros
 
 pub load-refused : (h : List ℕ) → loadBlockOf h .out ≢ 0 → loadBlockOf h .mem ≡ replicate blockSize 0
 unfolding loadBlockOf blockLoaded loadHeadOf
@@ -154,8 +156,8 @@ unsaved false w old kept refused = refl
 
 pub save-refused : (b h : List ℕ) → saveBlockOf b h .out ≢ 0 → saveBlockOf b h .mem ≡ h
 unfolding saveBlockOf saveHeadOf savedBy
-save-refused b h refused = unsaved (hasCodes b) _ h (λ p. refused-left _ _ h p) refused
+save-refused b h refused = unsaved (hasCodes b) _ h (λ p. refused-left _ p _ h) refused
 
 pub save-image-refused : (b m image : List ℕ) → saveBlockImageOf b m image .out ≢ 0 → saveBlockImageOf b m image .mem ≡ image
 unfolding saveBlockImageOf saveImageOf savedBy
-save-image-refused b m image refused = unsaved (hasCodes b) _ image (λ p. refused-left _ _ image p) refused
+save-image-refused b m image refused = unsaved (hasCodes b) _ image (λ p. refused-left _ p _ image) refused

@@ -1,10 +1,11 @@
 -- A step and a run of the state in a block, and a run of an image where it lies: the answer, and what is left in everything that
 -- was lent. Document 01, "Refusal numbers" and "Runs and counts".
 -- Assumes nothing.
-use Prim.Native.Nat.{ℕ, zero, suc}
+use Prim.Native.Nat.{ℕ}
 use mathlib.Core.Bool.{Bool, true, false}
 use mathlib.Core.List.{List}
 use mathlib.Core.Path.{_≡_}
+use Rattle.arith.specs.Refusals.{unlessRefused}
 use Rattle.machine.specs.Answers.{With}
 use Rattle.machine.specs.Step.{stepOf}
 use Rattle.machine.specs.Run.{runOf}
@@ -96,8 +97,9 @@ imageRan w =
 
 -- an image that does not open changes in nothing
 unfoldable pub runImageIf : ℕ → ℕ → List ℕ → ImageRun
-runImageIf zero budget image = imageRan (runOf budget (stateIn image) (memoryIn image))
-runImageIf (suc n) budget image = record { code = suc n; image = image; spent = 0; steps = 0 }
+runImageIf code budget image =
+    unlessRefused code (λ _. imageRan (runOf budget (stateIn image) (memoryIn image)))
+    (λ n. record { code = n; image = image; spent = 0; steps = 0 })
 
 unfoldable pub runImageOf : ℕ → List ℕ → ImageRun
 runImageOf budget image = runImageIf (loadCode imageSize image) budget image

@@ -3,4 +3,4 @@
 pub mod Block
 pub mod Calls
 pub mod Sizes
-pub mod Words
+pub mod Wording

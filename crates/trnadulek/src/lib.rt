@@ -1,7 +1,7 @@
 // The core for a host in another language: numbers and lent bytes in, a refusal number out. The live state is a state block, 14
 // bytes; a head is the 23 bytes of a saved state, with its block inside. No function asks anything of its caller or keeps anything
 // between two calls.
-mod words;
+mod wording;
 
 use insn::table;
 use machine::run;
@@ -12,7 +12,7 @@ ghost use Rattle.machine.specs.Answers.{Gives};
 ghost use Rattle.trnadulek.specs.Block.{loadBlockOf, openBlockOf, saveBlockOf, saveBlockImageOf};
 ghost use Rattle.trnadulek.specs.Calls.{StepGives, stepBlockOf, RunGives, runBlockOf, ImageGives, runImageOf};
 ghost use Rattle.trnadulek.specs.Sizes.{sizeOf, libraryVersion};
-ghost use Rattle.trnadulek.specs.Words.{wordsOf, tellOf};
+ghost use Rattle.trnadulek.specs.Wording.{wordingOf, tellOf};
 
 // One step of the state in a block. Refusals 9 for its codes, then 1, 2, 3, 4, which change nothing and leave 0 cycles.
 #[no_mangle]
@@ -170,7 +170,7 @@ pub extern "C" fn trnadulek_version() -> u32
 // The words for a refusal number, written if there is room for all of them. The answer is how many bytes they have.
 #[no_mangle]
 pub extern "C" fn trnadulek_words(code: u8, out: &mut [u8]) -> usize
-    ensures { λ r. ⌜ Gives (tellOf (wordsOf code) (now (out .entry))) r (now (out .exit)) ⌝ }
+    ensures { λ r. ⌜ Gives (tellOf (wordingOf code) (now (out .entry))) r (now (out .exit)) ⌝ }
 {
-    words::tell(code, out)
+    wording::tell(code, out)
 }

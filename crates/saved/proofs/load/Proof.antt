@@ -1,6 +1,7 @@
 -- `load` reads the state where nothing is refused.
 use borrow.Author.Needs.{needs}
 use native.Mathlib.Omega.{arith}
+use Rattle.arith.specs.Refusals.{unlessRefused}
 use Rattle.saved.specs.Refusals.{Accepted, loadCode}
 use Rattle.saved.specs.Answers.{loadOf, loadedBy, stateIf}
 use Rattle.saved.proofs.Accepted.{accepted-right}
@@ -16,13 +17,13 @@ state-in-requires c κs =
     omega (arith, accepted-right _ _ (accepted c) .size-is)
 
 returns : tie.Need-returns
-unfolding loadOf loadedBy stateIf
+unfolding loadOf loadedBy stateIf unlessRefused
 returns c = rw (c .state-in .ensures, ← (c .before .before .load-refusal .ensures), c .before .if1 .taken)
 
 returns-2 : tie.Need-returns-2
 unfolding loadOf loadedBy
 returns-2 c =
-    rw (c .blank-state .ensures, ← (c .before .before .load-refusal .ensures), refused-state _ _ (c .before .if1 .left))
+    rw (c .cleared-state .ensures, ← (c .before .before .load-refusal .ensures), refused-state _ (c .before .if1 .left))
 
 pub load-spec : {M : Type 1} → statement M
 load-spec = tie.close (tie.spec (search needs) state-in-requires (search needs) returns returns-2)

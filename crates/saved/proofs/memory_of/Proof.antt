@@ -5,12 +5,13 @@ use native.Mathlib.Nat.{zero-add}
 use native.Mathlib.Omega.{arith}
 use borrow.Rule.Slice.PartAt.{part-to-end}
 use lib.ListN.{length}
-use Rattle.saved.specs.Head.{imageSize, memoryIn}
+use Rattle.arith.specs.Refusals.{unlessRefused}
+use Rattle.saved.specs.Head.{headSize, imageSize, memoryIn}
 use Rattle.saved.specs.Refusals.{Accepted, loadCode}
 use Rattle.saved.specs.Answers.{openOf, loadOf, loadedBy, memoryIf, startIf}
 use Rattle.saved.specs.declared.Loaded.{Loaded}
 use Rattle.saved.proofs.Accepted.{accepted-right}
-use Rattle.saved.proofs.Refused.{refused-memory, refused-start}
+use Rattle.saved.proofs.Refused.{refused-by, refused-memory}
 use Rattle.saved.proofs.memory_of.Statement.{statement}
 use Rattle.saved.proofs.memory_of.Tie as tie
 
@@ -36,17 +37,17 @@ part-result-start : tie.Need-part-result-start
 part-result-start c = omega (arith, size c)
 
 returns : tie.Need-returns
-unfolding openOf loadOf loadedBy memoryIf memoryIn startIf
+unfolding openOf loadOf loadedBy memoryIf memoryIn startIf unlessRefused
 returns c =
     let image = c .before .before .before .before .before .args .image .now in
-    record { holds = rw (accepted (c .before)) (part-to-end image 23); lies = rw (accepted (c .before)) }
+    record { holds = rw (accepted (c .before)) (part-to-end image headSize); lies = rw (accepted (c .before)) }
 
 returns-2 : tie.Need-returns-2
-unfolding openOf loadOf loadedBy
+unfolding openOf loadOf loadedBy startIf
 returns-2 c =
     record {
-      holds = sym (refused-memory _ _ (refused (c .before)));
-      lies = rw (refused-start _ (refused (c .before)), zero-add);
+      holds = sym (refused-memory _ (refused (c .before)) _);
+      lies = rw (refused-by _ _ _ (refused (c .before)), zero-add);
     }
 
 pub memory-of-spec : {M : Type 1} → statement M

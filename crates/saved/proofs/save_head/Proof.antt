@@ -1,10 +1,11 @@
 -- `save_head` writes a whole head where nothing is refused.
 use borrow.Author.Needs.{needs}
-use mathlib.Core.Path.{_≡_, sym, ap, _∙_}
+use mathlib.Core.Path.{_≡_, refl, sym, ap, _∙_}
 use native.Mathlib.Omega.{arith}
 use mathlib.Core.List.{_++_}
 use lib.ListN.{length, take, drop}
 use lib.Seq.{take-length}
+use Rattle.arith.specs.Refusals.{unlessRefused}
 use Rattle.saved.specs.Refusals.{Accepted, saveHeadCode}
 use Rattle.saved.specs.Answers.{saveHeadOf, savedBy, leftBy}
 use Rattle.saved.proofs.Accepted.{HeadFits, accepted-head-fits}
@@ -22,10 +23,6 @@ accepted c = omega arith
 fits : (c : tie.Then1) → let a = start c .args in HeadFits (a .cpu) (a .head .now)
 fits c = accepted-head-fits _ _ (accepted c)
 
-refused : (c : tie.Else1)
-    → let a = c .before .before .before .before .args in Accepted (saveHeadCode (a .cpu) (a .head .now)) → ⊥
-refused c e = omega arith
-
 copy-requires : tie.Need-copy-requires
 copy-requires c κs =
     let bytes = c .before .before in
@@ -33,7 +30,7 @@ copy-requires c κs =
     omega (arith, size, fits (bytes .before) .size-is)
 
 returns : tie.Need-returns
-unfolding saveHeadOf savedBy leftBy
+unfolding saveHeadOf savedBy leftBy unlessRefused
 returns c =
     let copied = c .before .before in
     let bytes = copied .before .before .before in
@@ -51,7 +48,7 @@ returns c =
 returns-2 : tie.Need-returns-2
 unfolding saveHeadOf savedBy
 returns-2 c =
-    record { answers = c .before .save-head-refusal .ensures; leaves = sym (refused-left _ _ _ (refused c)) }
+    rw (← (c .before .save-head-refusal .ensures)) (record { answers = refl; leaves = sym (refused-left _ (c .if1 .left) _ _) })
 
 pub save-head-spec : {M : Type 1} → statement M
 save-head-spec =

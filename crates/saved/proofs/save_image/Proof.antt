@@ -1,17 +1,18 @@
 -- `save_image` writes a whole image where nothing is refused: the head, then the memory into the part behind it.
 use borrow.Author.Needs.{needs}
-use mathlib.Core.Path.{_≡_, sym, ap, _∙_}
+use mathlib.Core.Path.{_≡_, refl, sym, ap, _∙_}
 use native.Mathlib.Omega.{arith}
 use Prim.Native.Nat.{ℕ, _-_}
 use mathlib.Core.List.{List, _++_}
 use lib.ListN.{length, take, drop}
 use lib.Seq.{take-length}
-use Rattle.saved.specs.Head.{imageSize}
+use Rattle.saved.specs.Head.{headSize, imageSize}
+use Rattle.arith.specs.Refusals.{unlessRefused}
 use Rattle.saved.specs.Refusals.{Accepted, saveImageCode}
 use Rattle.saved.specs.Answers.{saveImageOf, savedBy, leftBy}
 use Rattle.saved.proofs.Accepted.{ImageFits, accepted-image-fits}
 use Rattle.saved.proofs.Refused.{refused-left}
-use Rattle.saved.proofs.Written.{head-length, headed, room, image-written}
+use Rattle.saved.proofs.Written.{head-length, headed, behind-length, image-written}
 use Rattle.saved.proofs.save_image.Statement.{statement}
 use Rattle.saved.proofs.save_image.Tie as tie
 
@@ -24,14 +25,9 @@ accepted c = omega arith
 fits : (c : tie.Then1) → let a = start c .args in ImageFits (a .cpu) (a .mem .now) (a .image .now)
 fits c = accepted-image-fits _ _ _ (accepted c)
 
-refused : (c : tie.Else1)
-    → let a = c .before .before .before .before .before .args in
-    Accepted (saveImageCode (a .cpu) (a .mem .now) (a .image .now)) → ⊥
-refused c e = omega arith
-
 -- the part of the image behind the head, once the head is in it
 abbrev behind-part : tie.After-copy → List ℕ
-behind-part c = let image = c .copy .last .1 .0 in take (length image - 23) (drop 23 image)
+behind-part c = let image = c .copy .last .1 .0 in take (length image - headSize) (drop headSize image)
 
 -- the image once the head is in it
 written : (c : tie.After-copy)
@@ -64,11 +60,11 @@ copy-requires-2 c κs =
     let then = copied .before .before .before .before in
     let right = fits then in
     let a = start then .args in
-    rw (written copied, room (a .cpu) (a .mem .now) (a .image .now) (right .size-is) (right .memory-is))
+    rw (written copied, behind-length (a .cpu) (a .mem .now) (a .image .now) (right .size-is) (right .memory-is))
     (omega (arith, right .memory-is))
 
 returns : tie.Need-returns
-unfolding saveImageOf savedBy leftBy
+unfolding saveImageOf savedBy leftBy unlessRefused
 returns c =
     let copied = c .before .before .before .before .before .before in
     let then = copied .before .before .before .before in
@@ -87,7 +83,7 @@ returns c =
 returns-2 : tie.Need-returns-2
 unfolding saveImageOf savedBy
 returns-2 c =
-    record { answers = c .before .save-image-refusal .ensures; leaves = sym (refused-left _ _ _ (refused c)) }
+    rw (← (c .before .save-image-refusal .ensures)) (record { answers = refl; leaves = sym (refused-left _ (c .if1 .left) _ _) })
 
 pub save-image-spec : {M : Type 1} → statement M
 save-image-spec =

@@ -5,15 +5,15 @@ use Prim.Native.Nat.{_≤_}
 use mathlib.Core.Path.{_≡_, sym}
 use native.Mathlib.Omega.{arith}
 use lib.ListN.{length}
-use Rattle.saved.specs.Head.{imageSize}
-use Rattle.trnadulek.proofs.Images.{no-run, one-run, size-is, head-length, head-room}
+use Rattle.saved.specs.Head.{headSize, imageSize}
+use Rattle.trnadulek.proofs.Images.{no-run, image-run, size-is, front-length, head-room}
 use Rattle.trnadulek.proofs.trnadulek_run_image.Statement.{statement}
 use Rattle.trnadulek.proofs.trnadulek_run_image.Tie as tie
 
 size : (c : tie.Else1) → length (c .before .before .before .before .args .image .now) ≡ imageSize
 size c = size-is _ _ (c .before .check-image .ensures) (c .if1 .left)
 
-long : (c : tie.Else1) → 23 ≤ length (c .before .before .before .before .args .image .now)
+long : (c : tie.Else1) → headSize ≤ length (c .before .before .before .before .args .image .now)
 long c = omega (arith, size c)
 
 returns : tie.Need-returns
@@ -35,14 +35,14 @@ slice-aggregate-save-head : tie.Need-slice-aggregate-save-head
 slice-aggregate-save-head c =
     let ran = c .before .before .before .before in
     let else = ran .before .before .before in
-    sym (head-length (else .before .before .before .before .args .image .now) (ran .run .last .1 .0) (long else))
+    sym (front-length (else .before .before .before .before .args .image .now) (ran .run .last .1 .0) (long else))
 
 returns-2 : tie.Need-returns-2
 returns-2 c =
     let saved = c .before .before in
     let ran = saved .before .before .before .before .before in
     let else = ran .before .before .before in
-    one-run _ _ (else .before .check-image .ensures) (else .if1 .left) _ _ _ _ _ (ran .run .ensures)
+    image-run _ _ (else .before .check-image .ensures) (else .if1 .left) _ _ _ _ _ (ran .run .ensures)
     (saved .save-head .ensures)
 
 pub trnadulek-run-image-spec : {M : Type 1} → statement M

@@ -1,6 +1,6 @@
 -- `trnadulek_save_head` looks at the codes, and then saves the state that the block holds.
 use borrow.Author.Needs.{needs}
-use mathlib.Core.Path.{refl}
+use Rattle.machine.proofs.Gives.{exactly}
 use Rattle.trnadulek.specs.Block.{savedIf, saveBlockOf}
 use Rattle.trnadulek.proofs.trnadulek_save_head.Statement.{statement}
 use Rattle.trnadulek.proofs.trnadulek_save_head.Tie as tie
@@ -15,8 +15,7 @@ returns c =
 
 returns-2 : tie.Need-returns-2
 unfolding saveBlockOf savedIf
-returns-2 c =
-    rw (← (c .before .has-codes .ensures), c .if1 .left) (record { answers = refl; leaves = refl })
+returns-2 c = rw (← (c .before .has-codes .ensures), c .if1 .left) exactly
 
 pub trnadulek-save-head-spec : {M : Type 1} → statement M
 trnadulek-save-head-spec =

@@ -1,6 +1,6 @@
 -- `trnadulek_save_image` looks at the codes, and then saves the state that the block holds.
 use borrow.Author.Needs.{needs}
-use mathlib.Core.Path.{refl}
+use Rattle.machine.proofs.Gives.{exactly}
 use Rattle.trnadulek.specs.Block.{savedIf, saveBlockImageOf}
 use Rattle.trnadulek.proofs.trnadulek_save_image.Statement.{statement}
 use Rattle.trnadulek.proofs.trnadulek_save_image.Tie as tie
@@ -15,8 +15,7 @@ returns c =
 
 returns-2 : tie.Need-returns-2
 unfolding saveBlockImageOf savedIf
-returns-2 c =
-    rw (← (c .before .has-codes .ensures), c .if1 .left) (record { answers = refl; leaves = refl })
+returns-2 c = rw (← (c .before .has-codes .ensures), c .if1 .left) exactly
 
 pub trnadulek-save-image-spec : {M : Type 1} → statement M
 trnadulek-save-image-spec =

@@ -1,7 +1,7 @@
 -- `has_codes` looks at the two last bytes of the block.
 use borrow.Author.Needs.{needs}
 use mathlib.Core.Path.{refl}
-use Rattle.saved.specs.Digits.{byteIn}
+use Rattle.digits.specs.Digits.{byteIn}
 use Rattle.saved.specs.Block.{imeCodeIn, modeCodeIn, hasCodes}
 use Rattle.saved.proofs.block.has_codes.Statement.{statement}
 use Rattle.saved.proofs.block.has_codes.Tie as tie

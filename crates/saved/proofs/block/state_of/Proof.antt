@@ -1,6 +1,6 @@
 -- `state_of` reads each field at its place.
 use borrow.Author.Needs.{needs}
-use Rattle.saved.specs.Digits.{byteIn}
+use Rattle.digits.specs.Digits.{byteIn}
 use Rattle.saved.specs.Block.{flagsIn, imeCodeIn, modeCodeIn, heldIn}
 use Rattle.saved.proofs.block.state_of.Statement.{statement}
 use Rattle.saved.proofs.block.state_of.Tie as tie

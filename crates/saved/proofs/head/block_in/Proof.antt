@@ -4,7 +4,7 @@ use mathlib.Core.Path.{sym}
 use native.Mathlib.Omega.{arith}
 use Rattle.saved.specs.Block.{blockSize}
 use Rattle.saved.specs.Head.{blockIn}
-use Rattle.saved.proofs.Places.{bytesAt, part-bytes}
+use Rattle.digits.proofs.Places.{bytesAt, part-bytes}
 use Rattle.saved.proofs.head.block_in.Statement.{statement}
 use Rattle.saved.proofs.head.block_in.Tie as tie
 

@@ -1,6 +1,6 @@
 -- `bytes_of` puts the block between the version and the two lengths.
 use borrow.Author.Needs.{needs}
-use Rattle.saved.specs.Digits.{bytesOf, digitsOf}
+use Rattle.digits.specs.Digits.{bytesOf, digitsOf}
 use Rattle.saved.specs.Block.{blockOf}
 use Rattle.saved.specs.Head.{headOf}
 use Rattle.saved.proofs.head.bytes_of.Statement.{statement}

@@ -1,100 +1,77 @@
 -- `content_refusal` tests the version, both lengths, the codes and F, in their order. Each test says the same as the
 -- definition's own.
 use borrow.Author.Needs.{needs}
-use Prim.Native.Nat.{ℕ}
-use mathlib.Core.List.{List}
 use mathlib.Core.Path.{_≡_, _∙_}
-use native.Mathlib.Omega.{arith}
 use borrow.Author.Tests.{eq-eqb, ne-eqb}
 use Rattle.arith.specs.Refusals.{numberOr, codeOf}
-use Rattle.machine.specs.Memory.{memorySize}
-use Rattle.saved.specs.Digits.{byteIn}
-use Rattle.saved.specs.Block.{blockSize, flagsIn, hasCodes}
-use Rattle.saved.specs.Head.{versionIn, blockSizeIn, blockIn, memorySizeIn, version}
+use Rattle.digits.specs.Digits.{byteIn}
+use Rattle.saved.specs.Block.{flagsIn, hasCodes}
+use Rattle.saved.specs.Head.{versionIn, blockSizeIn, blockIn, memorySizeIn}
 use Rattle.saved.specs.Refusals.{contentRefusals}
 use Rattle.saved.proofs.head.content_refusal.Statement.{statement}
 use Rattle.saved.proofs.head.content_refusal.Tie as tie
 
--- the head, from where each test is passed
-abbrev head1 : tie.Else1 → List ℕ
-head1 c = c .before .before .before .args .head .now
-
-abbrev head2 : tie.Else2 → List ℕ
-head2 c = head1 (c .before .before)
-
-abbrev head3 : tie.Else3 → List ℕ
-head3 c = head2 (c .before .before)
-
-version-is : (c : tie.Else1) → versionIn (head1 c) ≡ version
-unfolding versionIn byteIn
-version-is c = omega arith
-
-version-is-not : (c : tie.Then1) → versionIn (c .before .before .before .args .head .now) ≡ version → ⊥
-unfolding versionIn byteIn
-version-is-not c e = omega arith
-
-block-is : (c : tie.Else2) → blockSizeIn (head2 c) ≡ blockSize
-unfolding blockSizeIn
-block-is c = omega arith
-
-block-is-not : (c : tie.Then2) → blockSizeIn (head1 (c .before .before)) ≡ blockSize → ⊥
-unfolding blockSizeIn
-block-is-not c e = omega arith
-
-memory-is : (c : tie.Else3) → memorySizeIn (head3 c) ≡ memorySize
-unfolding memorySizeIn
-memory-is c = omega arith
-
-memory-is-not : (c : tie.Then3) → memorySizeIn (head2 (c .before .before)) ≡ memorySize → ⊥
-unfolding memorySizeIn
-memory-is-not c e = omega arith
-
-codes-are : (c : tie.After-has-codes) → c .has-codes .result ≡ hasCodes (blockIn (head3 (c .before .before .before)))
-codes-are c = c .has-codes .ensures ∙ rw (c .before .before .block-in .ensures)
+-- the refusals, and what they look at
+unfoldable layout : Unit {0}
+unfolding contentRefusals codeOf numberOr versionIn blockSizeIn memorySizeIn flagsIn byteIn
+layout = tt
 
 returns : tie.Need-returns
-unfolding contentRefusals codeOf numberOr
-returns c = rw (ne-eqb _ _ (version-is-not c))
+unfolding layout
+returns c = rw (ne-eqb _ _ (c .if1 .taken))
 
 returns-2 : tie.Need-returns-2
-unfolding contentRefusals codeOf numberOr
-returns-2 c = rw (eq-eqb _ _ (version-is (c .before .before)), ne-eqb _ _ (block-is-not c))
+unfolding layout
+returns-2 c =
+    let block = c .before in
+    rw (eq-eqb _ _ (block .before .if1 .left), ← (block .number-at .ensures), ne-eqb _ _ (c .if2 .taken))
 
 returns-3 : tie.Need-returns-3
-unfolding contentRefusals codeOf numberOr
+unfolding layout
 returns-3 c =
-    let block = c .before .before in
-    rw (eq-eqb _ _ (version-is (block .before .before)), eq-eqb _ _ (block-is block), ne-eqb _ _ (memory-is-not c))
+    let memory = c .before in
+    let block = memory .before .before in
+    rw (
+      eq-eqb _ _ (block .before .if1 .left),
+      ← (block .number-at .ensures),
+      eq-eqb _ _ (memory .before .if2 .left),
+      ← (memory .number-at2 .ensures),
+      ne-eqb _ _ (c .if3 .taken),
+    )
 
 returns-4 : tie.Need-returns-4
-unfolding contentRefusals codeOf numberOr flagsIn byteIn
+unfolding layout
 returns-4 c =
     let then = c .before in
-    let codes = then .before in
-    let held = codes .before .before in
-    let memory = held .before in
+    let held = then .before .before .before in
+    let memory = held .before .before in
     let block = memory .before .before in
     rw (
       c .flags-refusal .ensures,
-      held .block-in .ensures,
-      eq-eqb _ _ (version-is (block .before .before)),
-      eq-eqb _ _ (block-is block),
-      eq-eqb _ _ (memory-is memory),
-      ← (codes-are codes),
+      eq-eqb _ _ (block .before .if1 .left),
+      ← (block .number-at .ensures),
+      eq-eqb _ _ (memory .before .if2 .left),
+      ← (memory .number-at2 .ensures),
+      eq-eqb _ _ (held .before .if3 .left),
+      ← (held .block-in .ensures),
+      ← (then .before .has-codes .ensures),
       then .if4 .taken,
     )
 
 returns-5 : tie.Need-returns-5
-unfolding contentRefusals codeOf numberOr
+unfolding layout
 returns-5 c =
-    let codes = c .before in
-    let memory = codes .before .before .before in
+    let held = c .before .before .before in
+    let memory = held .before .before in
     let block = memory .before .before in
     rw (
-      eq-eqb _ _ (version-is (block .before .before)),
-      eq-eqb _ _ (block-is block),
-      eq-eqb _ _ (memory-is memory),
-      ← (codes-are codes),
+      eq-eqb _ _ (block .before .if1 .left),
+      ← (block .number-at .ensures),
+      eq-eqb _ _ (memory .before .if2 .left),
+      ← (memory .number-at2 .ensures),
+      eq-eqb _ _ (held .before .if3 .left),
+      ← (held .block-in .ensures),
+      ← (c .before .has-codes .ensures),
       c .if4 .left,
     )
 

@@ -1,18 +1,15 @@
--- `digit` meets its contract.
+-- `digit` writes the digit where n reaches its power.
 use borrow.Author.Needs.{needs}
-use borrow.Author.Tests.{le-leb, lt-leb}
-use Rattle.text.specs.Digits.{digitIf, digitAt}
-use Rattle.text.specs.Written.{written}
+use mathlib.Core.Path.{refl, _∙_}
+use native.Mathlib.Omega.{arith}
 use Rattle.text.proofs.Text.digit.Statement.{statement}
 use Rattle.text.proofs.Text.digit.Tie as tie
 
 returns : tie.Need-returns
-unfolding digitIf digitAt written
-returns c = rw (c .push .ensures, le-leb _ _ (c .before .if1 .taken))
+returns c = (λ _. rw (c .push .ensures, c .before .glyph .ensures), λ short. absurd (omega arith))
 
 returns-2 : tie.Need-returns-2
-unfolding digitIf digitAt written
-returns-2 c = rw (lt-leb _ _ (c .if1 .left))
+returns-2 c = (λ long. absurd (omega arith), λ _. refl)
 
 pub digit-spec : {M : Type 1} → statement M
 digit-spec = tie.close (tie.spec (search needs) (search needs) (search needs) (search needs) returns returns-2)

@@ -1,13 +1,15 @@
 -- `word` meets its contract.
 use borrow.Author.Needs.{needs}
 use Rattle.text.specs.Answer.{wordThen}
-use Rattle.text.specs.Digits.{hexOf}
+use native.Mathlib.Nat.{div-one}
+use Rattle.digits.specs.Digits.{digitsOf}
+use Rattle.digits.specs.Numerals.{hexText}
 use Rattle.text.specs.Written.{written}
 use Rattle.text.proofs.Text.word.Statement.{statement}
 use Rattle.text.proofs.Text.word.Tie as tie
 
 returns : tie.Need-returns
-unfolding wordThen hexOf written
+unfolding wordThen hexText digitsOf written
 returns c =
     let d = c .before .before .before in
     let h = d .before .before in
@@ -22,6 +24,7 @@ returns c =
       h .before .glyph2 .ensures,
       t .push .ensures,
       t .before .glyph .ensures,
+      div-one,
     )
 
 pub word-spec : {M : Type 1} → statement M

@@ -1,75 +1,75 @@
 -- `answer` meets its contract: 6 for a wrong length, the number of a refused head, and else the lines of the run.
-use Prim.Native.Nat.{_-_}
-use mathlib.Core.Path.{_≡_, _∙_, ap}
+use Prim.Native.Nat.{ℕ, _-_}
+use mathlib.Core.List.{List}
+use mathlib.Core.Path.{_≡_, sym, ap, _∙_}
 use borrow.Author.Needs.{needs}
 use native.Mathlib.Omega.{arith}
 use lib.ListN.{length, drop, length-drop}
 use lib.Seq.{take-all}
+use Rattle.arith.specs.Refusals.{unlessRefused}
+use Rattle.digits.specs.Digits.{numberOf, numberIn}
+use Rattle.digits.proofs.Places.{bytesAt, part-bytes}
 use Rattle.machine.proofs.Gives.{exactly}
 use Rattle.saved.specs.Answers.{loadHeadOf}
-use Rattle.saved.specs.Digits.{numberIn}
-use Rattle.text.specs.Answer.{ranOf}
-use Rattle.text.proofs.Ends.{first-four, too-short-or-long, lead-wrong, lengths-right, head-refused, head-taken}
+use Rattle.saved.proofs.Refused.{refused-by}
+use Rattle.text.specs.Answer.{budgetSize, ranOf, loadedRun}
+use Rattle.text.proofs.Ends.{too-short-or-long, lead-wrong, lengths-right}
 use Rattle.text.proofs.answer.answer.Statement.{statement}
 use Rattle.text.proofs.answer.answer.Tie as tie
 
 returns : tie.Need-returns
-returns c =
-    let a = c .before .before .before .before .args in
-    rw (too-short-or-long (a .got) (a .lead .now) (a .mem .now) (c .before .if1 .taken), c .refusal .ensures) exactly
+returns c = rw (too-short-or-long _ _ _ (c .before .if1 .taken), c .refusal .ensures) exactly
 
 returns-2 : tie.Need-returns-2
 returns-2 c =
-    let e = c .before .before in
-    let a = e .before .before .before .args in
-    rw (lead-wrong (a .got) (a .lead .now) (a .mem .now) (e .if1 .left) (c .before .if2 .taken), c .refusal2 .ensures) exactly
+    rw (lead-wrong _ _ _ (c .before .before .if1 .left) (c .before .if2 .taken), c .refusal2 .ensures) exactly
 
 -- the budget, and the head that was loaded
-budget : (c : tie.After-number)
-    → c .number .result ≡ numberIn 4 0 (c .before .before .before .before .before .before .before .before .before .args .lead .now)
-unfolding numberIn
-budget c =
-    let a = c .before .before .before .before .before .before .before .before .before .args in
-    rw (c .number .ensures, first-four (a .lead .now) (omega arith))
 
-loaded : (c : tie.After-load-head)
-    → c .load-head .result
-    ≡ loadHeadOf (drop 4 (c .before .before .before .before .before .before .before .before .before .before .before .args .lead .now))
+abbrev passed : tie.After-number → tie.Else2
+passed c = c .before .before .before .before .before
+
+abbrev lead : tie.Else2 → List ℕ
+lead c = c .before .before .before .before .args .lead .now
+
+budget : (c : tie.After-number) → c .number .result ≡ numberIn budgetSize 0 (lead (passed c))
+unfolding numberIn bytesAt
+budget c = c .number .ensures ∙ ap numberOf (sym (part-bytes budgetSize 0 (lead (passed c)) (omega arith)))
+
+loaded : (c : tie.After-load-head) → c .load-head .result ≡ loadHeadOf (drop budgetSize (lead (passed (c .before .before))))
 loaded c =
-    let a = c .before .before .before .before .before .before .before .before .before .before .before .args in
-    c .load-head .ensures ∙ ap loadHeadOf (take-all (length (a .lead .now) - 4) (drop 4 (a .lead .now)) (simp length-drop (omega arith)))
+    let given = lead (passed (c .before .before)) in
+    c .load-head .ensures ∙ ap loadHeadOf (take-all (length given - budgetSize) (drop budgetSize given) (simp length-drop (omega arith)))
 
 returns-3 : tie.Need-returns-3
+unfolding loadedRun
 returns-3 c =
-    let h = c .before .before .before in
-    let n = h .before .before in
-    let e = n .before .before .before .before .before in
-    let a = e .before .before .before .before .args in
+    let head = c .before .before .before in
+    let tests = passed (head .before .before) in
     rw (
-      lengths-right (a .got) (a .lead .now) (a .mem .now) (e .before .if1 .left) (e .if2 .left),
-      ← (loaded h),
-      head-refused (h .load-head .result .code) (h .load-head .result .cpu) (numberIn 4 0 (a .lead .now)) (a .mem .now) (c .before .if3 .taken),
+      lengths-right _ _ _ (tests .before .if1 .left) (tests .if2 .left),
+      ← (loaded head),
+      refused-by _ _ _ (c .before .if3 .taken),
       c .refusal3 .ensures,
     )
     exactly
 
 returns-4 : tie.Need-returns-4
-unfolding ranOf
+unfolding loadedRun unlessRefused ranOf
 returns-4 c =
-    let x = c .before .before .before in
-    let t = x .before .before in
-    let h = t .before .before in
-    let n = h .before .before in
-    let e = n .before .before .before .before .before in
-    let a = e .before .before .before .before .args in
+    let run = c .before .before .before in
+    let accepted = run .before .before in
+    let head = accepted .before .before in
+    let number = head .before .before in
+    let tests = passed number in
     rw (
-      lengths-right (a .got) (a .lead .now) (a .mem .now) (e .before .if1 .left) (e .if2 .left),
-      ← (loaded h),
-      head-taken (h .load-head .result .code) (h .load-head .result .cpu) (numberIn 4 0 (a .lead .now)) (a .mem .now) (t .if3 .left),
-      ← (budget n),
+      lengths-right _ _ _ (tests .before .if1 .left) (tests .if2 .left),
+      ← (loaded head),
+      accepted .if3 .left,
+      ← (budget number),
       c .ran .ensures,
-      x .run .ensures .answers,
-      x .run .ensures .leaves,
+      run .run .ensures .answers,
+      run .run .ensures .leaves,
     )
     exactly
 

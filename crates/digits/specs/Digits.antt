@@ -5,9 +5,9 @@ use mathlib.Core.List.{List, [], _∷_}
 use lib.ListN.{length, getD, take, drop}
 
 -- the number that the digits make, highest first
-unfoldable pub valueOf : ℕ → List ℕ → ℕ
-valueOf base [] = 0
-valueOf base (d ∷ rest) = d * base ^ length rest + valueOf base rest
+unfoldable pub worthOf : ℕ → List ℕ → ℕ
+worthOf base [] = 0
+worthOf base (d ∷ rest) = d * base ^ length rest + worthOf base rest
 
 -- the low k digits of n, highest first
 unfoldable pub digitsOf : ℕ → ℕ → ℕ → List ℕ
@@ -16,7 +16,7 @@ digitsOf base (suc k) n = n / base ^ k % base ∷ digitsOf base k n
 
 -- a number from its bytes, big-endian, and n in k such bytes
 unfoldable pub numberOf : List ℕ → ℕ
-numberOf bytes = valueOf 256 bytes
+numberOf bytes = worthOf 256 bytes
 
 unfoldable pub bytesOf : ℕ → ℕ → List ℕ
 bytesOf k n = digitsOf 256 k n

@@ -1,22 +1,16 @@
--- The words for a refusal number: those of document 01, "Refusal numbers", under "Given exactly when".
+-- The wording of a refusal number: that of document 01, "Refusal numbers", under "Given exactly when".
 -- Assumes nothing.
-use Prim.Native.Char.{code}
 use Prim.Native.Nat.{ℕ}
-use Prim.Native.String.{String, [] as noText, _∷_ as _then_}
 use mathlib.Core.Bool.{Bool, true, false}
 use mathlib.Core.List.{List, [], _∷_, _++_}
 use lib.Dec.{leb}
 use lib.ListN.{length, drop, getD}
+use Rattle.digits.specs.Ascii.{ascii}
 use Rattle.machine.specs.Answers.{With}
 
--- the bytes of a text that is all ASCII
-unfoldable pub ascii : String → List ℕ
-ascii noText = []
-ascii (c then rest) = code c ∷ ascii rest
-
 -- from 0 on
-unfoldable pub words : List (List ℕ)
-words =
+unfoldable pub wordings : List (List ℕ)
+wordings =
     ascii "done"
     ∷ ascii "memory length is not 65,536"
     ∷ ascii "low four bits of F are not 0"
@@ -29,15 +23,15 @@ words =
     ∷ ascii "IME code above 2, or mode code above 3"
     ∷ []
 
--- a number that the table does not have has no words
-unfoldable pub wordsOf : ℕ → List ℕ
-wordsOf number = getD words number []
+-- a number that the table does not have has no wording
+unfoldable pub wordingOf : ℕ → List ℕ
+wordingOf number = getD wordings number []
 
--- words go to the front of a slice that has room for all of them, and nothing goes to a shorter one
+-- a wording goes to the front of a slice that has room for all of it, and nothing goes to a shorter one
 unfoldable pub putIf : Bool → List ℕ → List ℕ → List ℕ
 putIf true told out = told ++ drop (length told) out
 putIf false told out = out
 
--- the answer is how many bytes the words have
+-- the answer is how many bytes the wording has
 unfoldable pub tellOf : List ℕ → List ℕ → With ℕ
 tellOf told out = record { out = length told; mem = putIf (leb (length told) (length out)) told out }

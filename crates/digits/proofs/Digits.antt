@@ -9,7 +9,7 @@ use native.Mathlib.Omega.{arith}
 use lib.Arith.{mod-mul, digits-lt, digits-div}
 use lib.ListN.{length, getD}
 use lib.Pow.{pow-add}
-use Rattle.saved.specs.Digits.{valueOf, digitsOf}
+use Rattle.digits.specs.Digits.{worthOf, digitsOf}
 
 -- every digit is below the base
 pub record Below (base : ℕ) (digits : List ℕ) : Type 0 where
@@ -25,19 +25,19 @@ module _ (base : ℕ) (pos : 0 < base) where
   digits-length (suc k) n = ap suc (digits-length k n)
 
   -- the low k digits of n make n modulo base to the k
-  pub value-digits : (k n : ℕ) → valueOf base (digitsOf base k n) ≡ n % base ^ k
-  unfolding valueOf digitsOf
-  value-digits zero n = sym (rw pow-zero (mod-one n))
-  value-digits (suc k) n =
-      rw (digits-length k n, value-digits k n, pow-suc, mul-comm (base ^ k) base)
+  pub worth-digits : (k n : ℕ) → worthOf base (digitsOf base k n) ≡ n % base ^ k
+  unfolding worthOf digitsOf
+  worth-digits zero n = sym (rw pow-zero (mod-one n))
+  worth-digits (suc k) n =
+      rw (digits-length k n, worth-digits k n, pow-suc, mul-comm (base ^ k) base)
       (sym (mod-mul n pos (one-le-pow k base pos)))
 
   -- digits make a number that they have room for
-  pub value-below : (digits : List ℕ) → Below base digits → valueOf base digits < base ^ length digits
-  unfolding valueOf
-  value-below [] p = rw pow-zero (omega arith)
-  value-below (d ∷ rest) p =
-      rw (pow-suc, mul-comm (base ^ length rest) base) (digits-lt (p .at 0) (value-below rest (below-rest p)))
+  pub worth-below : (digits : List ℕ) → Below base digits → worthOf base digits < base ^ length digits
+  unfolding worthOf
+  worth-below [] p = rw pow-zero (omega arith)
+  worth-below (d ∷ rest) p =
+      rw (pow-suc, mul-comm (base ^ length rest) base) (digits-lt (p .at 0) (worth-below rest (below-rest p)))
 
   -- what stands above the low k digits changes none of them
   digits-above : (k j x n : ℕ) → digitsOf base k (x * base ^ (k + j) + n) ≡ digitsOf base k n
@@ -59,14 +59,14 @@ module _ (base : ℕ) (pos : 0 < base) where
       rw (digit, up, digits-above k (suc j) x n)
 
   -- a number made of digits has those digits
-  pub digits-value : (digits : List ℕ) → Below base digits
-      → digitsOf base (length digits) (valueOf base digits) ≡ digits
-  unfolding digitsOf valueOf
-  digits-value [] p = refl
-  digits-value (d ∷ rest) p =
-      let below = value-below rest (below-rest p) in
-      let above = rw add-zero at (digits-above (length rest) 0 d (valueOf base rest)) in
-      rw (digits-div d below, mod-eq-of-lt (p .at 0), above, digits-value rest (below-rest p))
+  pub digits-worth : (digits : List ℕ) → Below base digits
+      → digitsOf base (length digits) (worthOf base digits) ≡ digits
+  unfolding digitsOf worthOf
+  digits-worth [] p = refl
+  digits-worth (d ∷ rest) p =
+      let below = worth-below rest (below-rest p) in
+      let above = rw add-zero at (digits-above (length rest) 0 d (worthOf base rest)) in
+      rw (digits-div d below, mod-eq-of-lt (p .at 0), above, digits-worth rest (below-rest p))
 
 -- lists of digits, put together
 

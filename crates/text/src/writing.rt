@@ -1,22 +1,20 @@
 // Writing bytes and numbers into a text.
 use crate::Text;
+use digits::glyphs;
 ghost use mathlib.Core.Path.{_≡_};
-ghost use mathlib.Core.List.{[], _∷_, _++_};
-ghost use Prim.Native.Nat.{_<_};
-ghost use Rattle.text.specs.Written.{blank, pushed, written};
-ghost use Rattle.text.specs.Digits.{digitAt, decimalOf, glyphOf, hexOf};
+ghost use Prim.Native.Nat.{_/_, _%_, _<_, _≤_};
+ghost use Rattle.digits.specs.Numerals.{glyphOf, decimalText};
+ghost use Rattle.text.specs.Written.{emptyText, pushed, written};
 ghost use Rattle.text.specs.Answer.{numberThen, wordThen};
 
-fn glyph(d: u8) -> u8
-    requires { ⌜ d < 16 ⌝ }
-    ensures { λ r. ⌜ r ≡ glyphOf d ⌝ }
-{
-    if d < 10 { 48 + d } else { 55 + d }
-}
+// What stands between the entries of a line, and what ends it.
+const SPACE: u8 = 32;
+
+pub(crate) const NEWLINE: u8 = 10;
 
 impl Text {
     pub(crate) fn new() -> Text
-        ensures { λ r. ⌜ r ≡ blank ⌝ }
+        ensures { λ r. ⌜ r ≡ emptyText ⌝ }
     {
         Text {
             bytes: [0u8; 160],
@@ -53,40 +51,43 @@ impl Text {
     // The digit of n that counts p, where n reaches p.
     fn digit(self, n: u32, p: u32) -> Text
         requires { ⌜ 0 < p ⌝ }
-        ensures { λ r. ⌜ r ≡ written (digitAt p n) self ⌝ }
+        ensures { λ r. ⌜ (p ≤ n → r ≡ pushed (glyphOf (n / p % 10)) self) × (n < p → r ≡ self) ⌝ }
     {
         if p <= n {
-            return self.push(48 + ((n / p % 10) as u8));
+            return self.push(glyphs::glyph((n / p % 10) as u8));
         }
         self
     }
 
+    // From the highest digit that is not 0 on; the last is always there.
     pub(crate) fn decimal(self, n: u32) -> Text
-        ensures { λ r. ⌜ r ≡ written (decimalOf n) self ⌝ }
+        ensures { λ r. ⌜ r ≡ written (decimalText n) self ⌝ }
     {
-        let high = self.digit(n, 1000000000)
-            .digit(n, 100000000)
-            .digit(n, 10000000);
-        let middle = high.digit(n, 1000000).digit(n, 100000).digit(n, 10000);
-        let low = middle.digit(n, 1000).digit(n, 100).digit(n, 10);
-        low.push(48 + ((n % 10) as u8))
+        let mut t = self;
+        let mut p = 1_000_000_000;
+        while 1 < p {
+            let next = t.digit(n, p);
+            t = next;
+            p /= 10;
+        }
+        t.push(glyphs::glyph((n % 10) as u8))
     }
 
     // A number and a space.
     pub(crate) fn number(self, n: u32) -> Text
         ensures { λ r. ⌜ r ≡ written (numberThen n) self ⌝ }
     {
-        self.decimal(n).push(32)
+        self.decimal(n).push(SPACE)
     }
 
     // A word in four hexadecimal digits and a space.
     pub(crate) fn word(self, w: u16) -> Text
         ensures { λ r. ⌜ r ≡ written (wordThen w) self ⌝ }
     {
-        let high = self.push(glyph((w / 4096 % 16) as u8))
-            .push(glyph((w / 256 % 16) as u8));
-        high.push(glyph((w / 16 % 16) as u8))
-            .push(glyph((w % 16) as u8))
-            .push(32)
+        let high = self.push(glyphs::glyph((w / 4096 % 16) as u8))
+            .push(glyphs::glyph((w / 256 % 16) as u8));
+        high.push(glyphs::glyph((w / 16 % 16) as u8))
+            .push(glyphs::glyph((w % 16) as u8))
+            .push(SPACE)
     }
 }

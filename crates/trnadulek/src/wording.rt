@@ -1,19 +1,19 @@
-// The words for each refusal number: those of the scope's table.
+// The wording of each refusal number: that of the scope's table.
 ghost use Rattle.machine.specs.Answers.{Gives};
-ghost use Rattle.trnadulek.specs.Words.{wordsOf, tellOf};
+ghost use Rattle.trnadulek.specs.Wording.{wordingOf, tellOf};
 
-// Writes words to the front of a slice that has room for them, and answers how many bytes they have.
-fn put(words: &[u8], out: &mut [u8]) -> usize
-    ensures { λ r. ⌜ Gives (tellOf (now (words .entry)) (now (out .entry))) r (now (out .exit)) ⌝ }
+// Writes a wording to the front of a slice that has room for it, and answers how many bytes it has.
+fn put(wording: &[u8], out: &mut [u8]) -> usize
+    ensures { λ r. ⌜ Gives (tellOf (now (wording .entry)) (now (out .entry))) r (now (out .exit)) ⌝ }
 {
-    if words.len() <= out.len() {
-        return bytes::copy(words, out);
+    if wording.len() <= out.len() {
+        return bytes::copy(wording, out);
     }
-    words.len()
+    wording.len()
 }
 
 pub(crate) fn tell(code: u8, out: &mut [u8]) -> usize
-    ensures { λ r. ⌜ Gives (tellOf (wordsOf code) (now (out .entry))) r (now (out .exit)) ⌝ }
+    ensures { λ r. ⌜ Gives (tellOf (wordingOf code) (now (out .entry))) r (now (out .exit)) ⌝ }
 {
     match code {
         0 => put(b"done", out),

@@ -1,22 +1,22 @@
--- `put` copies words that there is room for.
+-- `put` copies a wording that there is room for.
 use borrow.Author.Needs.{needs}
 use borrow.Author.Tests.{le-leb, lt-leb}
 use mathlib.Core.List.{_++_}
 use mathlib.Core.Path.{_≡_, refl}
 use lib.ListN.{length, take, drop}
 use lib.Seq.{take-length}
-use Rattle.trnadulek.specs.Words.{putIf, tellOf}
-use Rattle.trnadulek.proofs.words.put.Statement.{statement}
-use Rattle.trnadulek.proofs.words.put.Tie as tie
+use Rattle.trnadulek.specs.Wording.{putIf, tellOf}
+use Rattle.trnadulek.proofs.wording.put.Statement.{statement}
+use Rattle.trnadulek.proofs.wording.put.Tie as tie
 
 returns : tie.Need-returns
 unfolding tellOf putIf
 returns c =
     let called = c .before .before in
     let start = called .before .before .before .before .before in
-    let words = start .args .words .now in
+    let wording = start .args .wording .now in
     let out = start .args .out .now in
-    let copied : called .copy .last .1 .0 ≡ take (length words) words ++ drop (length words) out =
+    let copied : called .copy .last .1 .0 ≡ take (length wording) wording ++ drop (length wording) out =
     called .copy .ensures .1 in
     record {
       answers = called .copy .ensures .0;

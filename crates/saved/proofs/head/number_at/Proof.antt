@@ -1,10 +1,10 @@
 -- `number_at` is the number of the four bytes from a place on.
 use borrow.Author.Needs.{needs}
 use native.Mathlib.Numerals.{towards-suc}
-use Rattle.saved.specs.Digits.{numberIn}
-use Rattle.saved.proofs.Places.{bytesAt, part-bytes}
-use Rattle.saved.proofs.numbers.number_at.Statement.{statement}
-use Rattle.saved.proofs.numbers.number_at.Tie as tie
+use Rattle.digits.specs.Digits.{numberIn}
+use Rattle.digits.proofs.Places.{bytesAt, part-bytes}
+use Rattle.saved.proofs.head.number_at.Statement.{statement}
+use Rattle.saved.proofs.head.number_at.Tie as tie
 
 returns : tie.Need-returns
 unfolding numberIn bytesAt
