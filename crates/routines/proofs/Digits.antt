@@ -35,8 +35,8 @@ unfolding adjusted
 adjusted-low r = decimal-fits (r .value) (r .flags) .flags-low
 
 -- a number below 100 as a byte of digits and its F: N and C as given, H 0
-abbrev pub digitsOf : ℕ → Bool → Bool → Byte
-digitsOf k n c = record { value = bcd k; flags = flagsOf (isZero (bcd k)) n false c }
+abbrev pub bcdByte : ℕ → Bool → Bool → Byte
+bcdByte k n c = record { value = bcd k; flags = flagsOf (isZero (bcd k)) n false c }
 
 -- ADC by the sums u and l
 summed : ℕ → ℕ → Byte
@@ -51,7 +51,7 @@ abbrev found : ℕ → ℕ → Byte
 found u l = adjusted (summed u l)
 
 abbrev wanted : ℕ → ℕ → Byte
-wanted u l = digitsOf ((10 * u + l) % 100) false (leb 100 (10 * u + l))
+wanted u l = bcdByte ((10 * u + l) % 100) false (leb 100 (10 * u + l))
 
 all-sums : (u l : ℕ) → u < 19 → l < 20 → found u l ≡ wanted u l
 unfolding adjusted summed sumOf weightIf flagsOf nOf hOf cOf adjustmentOf adjustedOf lowWrongOf highWrongOf afterAdditionOf byLast decimalOf
@@ -72,7 +72,7 @@ module _ (x y : ℕ) (k : Bool) (v : Decimal x) (w : Decimal y) where
 
   -- the decimal sum of two decimal bytes and a carry
   pub decimal-sum : adjusted (addedOf x y k)
-      ≡ digitsOf ((worth x + worth y + oneIf k) % 100) false (leb 100 (worth x + worth y + oneIf k))
+      ≡ bcdByte ((worth x + worth y + oneIf k) % 100) false (leb 100 (worth x + worth y + oneIf k))
   decimal-sum =
       let u = x / 16 + y / 16 in
       let l = x % 16 + y % 16 + oneIf k in
