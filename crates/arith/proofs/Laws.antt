@@ -38,9 +38,10 @@ pub one-most : (t : Bool) → oneIf t ≤ 1
 one-most true = omega arith
 one-most false = omega arith
 
-one-told : (t : Bool) → eqb (oneIf t) 1 ≡ t
-one-told true = refl
-one-told false = refl
+-- a bit that is 1 where a test holds tells it
+bit-told : (f d : ℕ) (t : Bool) → f / d % 2 ≡ oneIf t → eqb (f / d % 2) 1 ≡ t
+bit-told f d true e = rw e
+bit-told f d false e = rw e
 
 weighed : (t : Bool) (v : ℕ) → weightIf t v ≡ oneIf t * v
 unfolding weightIf
@@ -60,28 +61,19 @@ module _ (z n h c : Bool) where
 
   pub z-back : zOf (flagsOf z n h c) ≡ z
   unfolding zOf
-  z-back =
-      let e : flagsOf z n h c / 128 % 2 ≡ oneIf z =
-      omega (arith, flags-sum, one-most z, one-most n, one-most h, one-most c) in
-      rw e (one-told z)
+  z-back = bit-told (flagsOf z n h c) 128 z (omega (arith, flags-sum, one-most z, one-most n, one-most h, one-most c))
 
   pub n-back : nOf (flagsOf z n h c) ≡ n
   unfolding nOf
-  n-back =
-      let e : flagsOf z n h c / 64 % 2 ≡ oneIf n = omega (arith, flags-sum, one-most n, one-most h, one-most c) in
-      rw e (one-told n)
+  n-back = bit-told (flagsOf z n h c) 64 n (omega (arith, flags-sum, one-most n, one-most h, one-most c))
 
   pub h-back : hOf (flagsOf z n h c) ≡ h
   unfolding hOf
-  h-back =
-      let e : flagsOf z n h c / 32 % 2 ≡ oneIf h = omega (arith, flags-sum, one-most h, one-most c) in
-      rw e (one-told h)
+  h-back = bit-told (flagsOf z n h c) 32 h (omega (arith, flags-sum, one-most h, one-most c))
 
   pub c-back : cOf (flagsOf z n h c) ≡ c
   unfolding cOf
-  c-back =
-      let e : flagsOf z n h c / 16 % 2 ≡ oneIf c = omega (arith, flags-sum, one-most c) in
-      rw e (one-told c)
+  c-back = bit-told (flagsOf z n h c) 16 c (omega (arith, flags-sum, one-most c))
 
 -- words
 
@@ -136,40 +128,38 @@ offset-below e w = by-below (ltb e 0x80) e w
 
 -- a byte or a word that is one, with an F that is one
 
-pub record ByteFits (b : Byte) : Type 0 where
-  pub value-below : b .value < 256
-  pub flags-below : b .flags < 256
-  pub flags-low : b .flags % 16 ≡ 0
+pub record Fits (bound value flags : ℕ) : Type 0 where
+  pub value-below : value < bound
+  pub flags-below : flags < 256
+  pub flags-low : flags % 16 ≡ 0
 
-pub record WordFits (w : Word) : Type 0 where
-  pub value-below : w .value < 65536
-  pub flags-below : w .flags < 256
-  pub flags-low : w .flags % 16 ≡ 0
+abbrev pub ByteFits : Byte → Type 0
+ByteFits b = Fits 256 (b .value) (b .flags)
 
-byte-fits : (v : ℕ) (z n h c : Bool) → v < 256 → ByteFits (record { value = v; flags = flagsOf z n h c })
-byte-fits v z n h c p = record { value-below = p; flags-below = flags-below z n h c; flags-low = flags-low z n h c }
+abbrev pub WordFits : Word → Type 0
+WordFits w = Fits 65536 (w .value) (w .flags)
 
-word-fits : (v : ℕ) (z n h c : Bool) → v < 65536 → WordFits (record { value = v; flags = flagsOf z n h c })
-word-fits v z n h c p = record { value-below = p; flags-below = flags-below z n h c; flags-low = flags-low z n h c }
+fits : (z n h c : Bool) {bound v : ℕ} → v < bound → Fits bound v (flagsOf z n h c)
+fits z n h c p = record { value-below = p; flags-below = flags-below z n h c; flags-low = flags-low z n h c }
 
 pub alu-fits : (op : Alu) (a b f : ℕ) → a < 256 → b < 256 → ByteFits (aluOf op a b f)
 unfolding aluOf addedOf subtractedOf logicOf comparedOf
-alu-fits Add a b f p q = byte-fits _ _ _ _ _ (sum-below 8 a b 0)
-alu-fits Adc a b f p q = byte-fits _ _ _ _ _ (sum-below 8 a b (oneIf (cOf f)))
-alu-fits Sub a b f p q = byte-fits _ _ _ _ _ (difference-below 8 a b 0)
-alu-fits Sbc a b f p q = byte-fits _ _ _ _ _ (difference-below 8 a b (oneIf (cOf f)))
-alu-fits And a b f p q = byte-fits _ _ _ _ _ (lt-of-le-of-lt (and-le-l a b) p)
-alu-fits Xor a b f p q = byte-fits _ _ _ _ _ (xor-lt 8 a b p q)
-alu-fits Or a b f p q = byte-fits _ _ _ _ _ (or-lt 8 a b p q)
-alu-fits Cp a b f p q = byte-fits _ _ _ _ _ p
+alu-fits Add a b f p q = fits _ _ _ _ (sum-below 8 a b 0)
+alu-fits Adc a b f p q = fits _ _ _ _ (sum-below 8 a b (oneIf (cOf f)))
+alu-fits Sub a b f p q = fits _ _ _ _ (difference-below 8 a b 0)
+alu-fits Sbc a b f p q = fits _ _ _ _ (difference-below 8 a b (oneIf (cOf f)))
+alu-fits And a b f p q = fits _ _ _ _ (lt-of-le-of-lt (and-le-l a b) p)
+alu-fits Xor a b f p q = fits _ _ _ _ (xor-lt 8 a b p q)
+alu-fits Or a b f p q = fits _ _ _ _ (or-lt 8 a b p q)
+alu-fits Cp a b f p q = fits _ _ _ _ p
 
 pub increased-fits : (v f : ℕ) → ByteFits (increasedOf v f)
 unfolding increasedOf
-increased-fits v f = byte-fits _ _ _ _ _ (sum-below 8 v 1 0)
+increased-fits v f = fits _ _ _ _ (sum-below 8 v 1 0)
 
 pub decreased-fits : (v f : ℕ) → ByteFits (decreasedOf v f)
 unfolding decreasedOf
-decreased-fits v f = byte-fits _ _ _ _ _ (difference-below 8 v 1 0)
+decreased-fits v f = fits _ _ _ _ (difference-below 8 v 1 0)
 
 pub rotated-below : (op : Rot) (v : ℕ) (k : Bool) → v < 256 → rotatedOf op v k < 256
 unfolding rotatedOf
@@ -184,16 +174,16 @@ rotated-below Srl v k p = omega arith
 
 pub rotation-fits : (op : Rot) (v : ℕ) (k : Bool) → v < 256 → ByteFits (rotationOf op v k)
 unfolding rotationOf
-rotation-fits op v k p = byte-fits _ _ _ _ _ (rotated-below op v k p)
+rotation-fits op v k p = fits _ _ _ _ (rotated-below op v k p)
 
 pub rotation-a-fits : (op : Rot) (v : ℕ) (k : Bool) → v < 256 → ByteFits (rotationAOf op v k)
 unfolding rotationAOf
-rotation-a-fits op v k p = byte-fits _ _ _ _ _ (rotated-below op v k p)
+rotation-a-fits op v k p = fits _ _ _ _ (rotated-below op v k p)
 
 last-fits : (t : Bool) (a : ℕ) (h c : Bool) → ByteFits (byLast t a h c)
 unfolding byLast afterSubtractionOf afterAdditionOf adjustedOf
-last-fits true a h c = byte-fits _ _ _ _ _ (difference-below 8 a _ 0)
-last-fits false a h c = byte-fits _ _ _ _ _ (sum-below 8 a _ 0)
+last-fits true a h c = fits _ _ _ _ (difference-below 8 a _ 0)
+last-fits false a h c = fits _ _ _ _ (sum-below 8 a _ 0)
 
 pub decimal-fits : (a f : ℕ) → ByteFits (decimalOf a f)
 unfolding decimalOf
@@ -201,11 +191,11 @@ decimal-fits a f = last-fits (nOf f) a (hOf f) (cOf f)
 
 pub added-hl-fits : (hl v f : ℕ) → WordFits (addedHlOf hl v f)
 unfolding addedHlOf
-added-hl-fits hl v f = word-fits _ _ _ _ _ (sum-below 16 hl v 0)
+added-hl-fits hl v f = fits _ _ _ _ (sum-below 16 hl v 0)
 
 pub added-sp-fits : (sp e : ℕ) → WordFits (addedSpOf sp e)
 unfolding addedSpOf
-added-sp-fits sp e = word-fits _ _ _ _ _ (offset-below e sp)
+added-sp-fits sp e = fits _ _ _ _ (offset-below e sp)
 
 -- single bits: the byte with one bit set, as it stands in the definitions and as the code shifts it
 

@@ -8,7 +8,7 @@ use Rattle.arith.specs.Words.{highOf, lowOf}
 use Rattle.cases.specs.Case.{stateOf}
 use Rattle.cases.specs.Twelve.{twelve}
 use Rattle.cases.specs.Paper.{paper}
-use Rattle.cases.specs.Agreed.{codeOf, orElse, listed, valueAt, hasAll, agrees, unlessSo, differing}
+use Rattle.cases.specs.Agreed.{imeNumber, orElse, listed, valueAt, hasAll, agrees, unlessSo, differing}
 
 pub twelve-in-all : length twelve ≡ 12
 unfolding twelve
@@ -19,5 +19,5 @@ unfolding paper
 twelve-on-paper = refl
 
 pub twelve-agree : differing 1 paper twelve ≡ []
-unfolding twelve paper stateOf highOf lowOf codeOf orElse listed valueAt hasAll agrees unlessSo differing
+unfolding twelve paper stateOf highOf lowOf imeNumber orElse listed valueAt hasAll agrees unlessSo differing
 twelve-agree = refl

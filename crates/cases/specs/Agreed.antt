@@ -11,10 +11,10 @@ use Rattle.cases.specs.Case.{Cell, Case}
 use Rattle.cases.specs.Paper.{Place, Number, Row}
 use Rattle.cases.specs.Paper.Place.{A, F, B, HL, BC, SP, PC, Carry, IME, Opcode, Next, Top, Under, At}
 
-unfoldable pub codeOf : Ime → ℕ
-codeOf Off = 0
-codeOf Arming = 1
-codeOf On = 2
+unfoldable pub imeNumber : Ime → ℕ
+imeNumber Off = 0
+imeNumber Arming = 1
+imeNumber On = 2
 
 -- the byte that is listed for an address; one that is not listed is 65,536, which no byte is
 unfoldable pub orElse : Bool → ℕ → ℕ → ℕ
@@ -34,7 +34,7 @@ valueAt s xs BC = s .b * 256 + s .c
 valueAt s xs SP = s .sp
 valueAt s xs PC = s .pc
 valueAt s xs Carry = s .f / 16 % 2
-valueAt s xs IME = codeOf (s .ime)
+valueAt s xs IME = imeNumber (s .ime)
 valueAt s xs Opcode = listed (s .pc) xs
 valueAt s xs Next = listed (s .pc + 1) xs
 valueAt s xs Top = listed (s .sp) xs

@@ -6,7 +6,7 @@ use lib.ListN.{replicate}
 use Rattle.arith.specs.Words.{highOf, lowOf}
 use Rattle.machine.specs.Answers.{With}
 use Rattle.machine.specs.State.{cpuOf}
-use Rattle.machine.specs.Memory.{byteAt, stored}
+use Rattle.machine.specs.Memory.{Memory, byteAt, stored}
 use Rattle.machine.specs.Step.{stepOf}
 use Rattle.machine.specs.declared.Ime.{Ime}
 use Rattle.machine.specs.declared.Mode.the-variants.{Running}
@@ -22,7 +22,7 @@ abbrev pub cell : ℕ → ℕ → Cell
 cell at v = record { at = at; value = v }
 
 -- 65,536 bytes that are 0 but for some
-unfoldable pub memoryOf : List Cell → List ℕ
+unfoldable pub memoryOf : List Cell → Memory
 memoryOf [] = replicate 65536 0
 memoryOf (x ∷ xs) = stored (memoryOf xs) (x .at) (x .value)
 
@@ -46,7 +46,7 @@ case start bytes cycles end left = record { start = start; bytes = bytes; cycles
 pub data Shown (A : Type 0) : Type 0 where
   shown : A → List Cell → Shown A
 
-unfoldable pub cellsOf : List ℕ → List Cell → List Cell
+unfoldable pub cellsOf : Memory → List Cell → List Cell
 cellsOf m [] = []
 cellsOf m (x ∷ xs) = cell (x .at) (byteAt m (x .at)) ∷ cellsOf m xs
 

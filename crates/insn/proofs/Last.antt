@@ -1,6 +1,6 @@
 -- The last arm of a match on a number: what is none of the numbers before it.
 -- Assumes nothing.
-use Prim.Native.Nat.{ℕ, zero, suc, _+_, _*_, _/_, _<_, _≤_}
+use Prim.Native.Nat.{ℕ, zero, suc, _+_, _<_, _≤_}
 use mathlib.Core.Path.{_≡_}
 use native.Mathlib.Omega.{arith}
 
@@ -15,7 +15,3 @@ past b (suc n) x h p = let i : b + n ≤ x = past b n x h (p .0) in omega (arith
 
 pub last : (n x : ℕ) → x < suc n → Passed 0 n x → x ≡ n
 last n x h p = let i : 0 + n ≤ x = past 0 n x (omega arith) p in omega arith
-
--- the last byte of a row of sixteen
-pub last-of : (b x : ℕ) → x / 16 ≡ b → Passed (16 * b) 15 x → x ≡ 16 * b + 15
-last-of b x h p = let i : 16 * b + 15 ≤ x = past (16 * b) 15 x (omega arith) p in omega arith

@@ -17,17 +17,12 @@ use Rattle.insn.specs.declared.Insn.{Insn}
 use Rattle.insn.specs.declared.Insn.the-variants.{Nop, StoreSp, Stop, Jr, JrIf, LoadPair, AddHl, StoreAt, LoadAt, IncPair, DecPair, Inc, Dec, Load, RotateA, Daa, Cpl, Scf, Ccf, Halt, Math, RetIf, StoreHigh, AddSp, LoadHigh, LoadHlSp, Pop, Ret, Reti, JumpHl, LoadSpHl, JumpIf, StoreHighC, StoreTo, LoadHighC, LoadFrom, Jump, Rotate, Bit, Res, Set, Di, Ei, CallIf, Push, Call, Rst, Undefined}
 use Rattle.insn.proofs.Entries.{agree}
 
-pub access-most : (o : Operand) → accessOf o ≤ 1
-unfolding accessOf
-access-most (Reg r) = omega arith
-access-most AtHl = omega arith
-access-most (Const v) = omega arith
-
-carried-most : (o : Operand) → carriedOf o ≤ 1
-unfolding carriedOf
-carried-most (Reg r) = omega arith
-carried-most AtHl = omega arith
-carried-most (Const v) = omega arith
+-- an operand takes at most one access, and carries at most one byte
+pub operand-most : (o : Operand) → (accessOf o ≤ 1) × (carriedOf o ≤ 1)
+unfolding accessOf carriedOf
+operand-most (Reg r) = omega arith
+operand-most AtHl = omega arith
+operand-most (Const v) = omega arith
 
 -- one to three bytes, and one to six cycles, those of a taken branch among them
 abbrev Fair : Shape → Type 0
@@ -46,16 +41,16 @@ fair (StoreAt p) = inr (omega arith)
 fair (LoadAt p) = inr (omega arith)
 fair (IncPair rp) = inr (omega arith)
 fair (DecPair rp) = inr (omega arith)
-fair (Inc p) = inr (omega (arith, access-most (operandOf p)))
-fair (Dec p) = inr (omega (arith, access-most (operandOf p)))
-fair (Load p s) = inr (omega (arith, access-most (operandOf p), access-most s, carried-most s))
+fair (Inc p) = inr (omega (arith, operand-most (operandOf p)))
+fair (Dec p) = inr (omega (arith, operand-most (operandOf p)))
+fair (Load p s) = inr (omega (arith, operand-most (operandOf p), operand-most s))
 fair (RotateA r) = inr (omega arith)
 fair Daa = inr (omega arith)
 fair Cpl = inr (omega arith)
 fair Scf = inr (omega arith)
 fair Ccf = inr (omega arith)
 fair Halt = inr (omega arith)
-fair (Math a o) = inr (omega (arith, access-most o, carried-most o))
+fair (Math a o) = inr (omega (arith, operand-most o))
 fair (RetIf cc) = inr (omega arith)
 fair (StoreHigh n) = inr (omega arith)
 fair (AddSp n) = inr (omega arith)
@@ -72,10 +67,10 @@ fair (StoreTo w) = inr (omega arith)
 fair LoadHighC = inr (omega arith)
 fair (LoadFrom w) = inr (omega arith)
 fair (Jump w) = inr (omega arith)
-fair (Rotate r p) = inr (omega (arith, access-most (operandOf p)))
-fair (Bit k p) = inr (omega (arith, access-most (operandOf p)))
-fair (Res k p) = inr (omega (arith, access-most (operandOf p)))
-fair (Set k p) = inr (omega (arith, access-most (operandOf p)))
+fair (Rotate r p) = inr (omega (arith, operand-most (operandOf p)))
+fair (Bit k p) = inr (omega (arith, operand-most (operandOf p)))
+fair (Res k p) = inr (omega (arith, operand-most (operandOf p)))
+fair (Set k p) = inr (omega (arith, operand-most (operandOf p)))
 fair Di = inr (omega arith)
 fair Ei = inr (omega arith)
 fair (CallIf cc w) = inr (omega arith)

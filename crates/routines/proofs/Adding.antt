@@ -2,7 +2,6 @@
 -- Assumes nothing.
 use Prim.Native.Nat.{ℕ, zero, suc, _+_, _-_, _*_, _%_, _^_, _<_}
 use mathlib.Core.Bool.{Bool, true, false}
-use mathlib.Core.List.{List}
 use mathlib.Core.Path.{_≡_, refl, sym, _∙_, ap}
 use native.Mathlib.Nat.{add-zero, add-mul-mod-self-left, mod-eq-of-lt}
 use native.Mathlib.Omega.{arith}
@@ -16,11 +15,11 @@ use Rattle.arith.specs.Words.{further}
 use Rattle.arith.specs.declared.Alu.the-variants.{And}
 use Rattle.arith.proofs.Laws.{flags-low, c-back}
 use Rattle.machine.specs.State.{cpuOf}
-use Rattle.machine.specs.Memory.{byteAt, wordAt}
+use Rattle.machine.specs.Memory.{Memory, byteAt, wordAt}
 use Rattle.machine.specs.Run.{ending, runOf}
 use Rattle.machine.specs.declared.Cpu.{Cpu}
 use Rattle.routines.specs.Decimals.{num}
-use Rattle.routines.specs.Steps.{after}
+use Rattle.routines.specs.Steps.{afterSteps}
 use Rattle.routines.specs.Premises.{Given}
 use Rattle.routines.specs.Adding.{addingRoutine, endFlags, Added}
 use Rattle.routines.proofs.Stepping.{Takes, recount, taken, _then_}
@@ -41,13 +40,7 @@ module _ {M P Z : ℕ} (small : M < P) where
   overflow true e = rw (le-leb P Z (omega arith))
   overflow false e = rw (lt-leb P Z (omega arith))
 
-two : (r : ℕ) → 1 + 7 * suc r + 1 ≡ 7 * suc r + 2
-two r = omega arith
-
-four : (r : ℕ) → 1 + (13 * r + 12) + 4 ≡ 13 * suc r + 4
-four r = omega arith
-
-module _ {r : ℕ} {s : Cpu} {m : List ℕ} {dst src : ℕ} (g : Given addingRoutine (suc r) s m dst src) where
+module _ {r : ℕ} {s : Cpu} {m : Memory} {dst src : ℕ} (g : Given addingRoutine (suc r) s m dst src) where
   -- F after AND A: C is 0
   f₀ : ℕ
   f₀ = aluOf And (s .a) (s .a) (s .f) .flags
@@ -83,10 +76,11 @@ module _ {r : ℕ} {s : Cpu} {m : List ℕ} {dst src : ℕ} (g : Given addingRou
   unfolding f₀ ended
   steps =
       let size : length (looped .mem) ≡ 65536 = looped .sum .filled .size ∙ g .memory in
-      recount (two r) (four r)
+      recount
       (and-a (g .memory) (g .f) (next _ (s .pc + 1) (omega arith)) (rw add-zero at (g .pc 0 (lit< tt)))
       then looped .ran
       then ret size (flags-low true true false (looped .over)) kept-code kept-stack)
+      (omega arith) (omega arith)
 
   -- the first state, field by field
   start : s ≡ running (s .a) (s .f) (s .b) (s .c) (s .d) (s .e) (s .h) (s .l) (s .sp) (s .pc)
@@ -108,7 +102,7 @@ module _ {r : ℕ} {s : Cpu} {m : List ℕ} {dst src : ℕ} (g : Given addingRou
       record {
         cpu = ended;
         mem = looped .mem;
-        ran = ap (λ (t : Cpu). after (7 * suc r + 2) t m) start ∙ taken steps;
+        ran = ap (λ (t : Cpu). afterSteps (7 * suc r + 2) t m) start ∙ taken steps;
         sum = remainder small (looped .over) number;
         digits = looped .sum .filled .digits;
         kept = looped .sum .filled .kept;
@@ -128,12 +122,12 @@ module _ {r : ℕ} {s : Cpu} {m : List ℕ} {dst src : ℕ} (g : Given addingRou
       }
 
 -- THE ADDING ROUTINE ADDS
-pub adding : {n : ℕ} {s : Cpu} {m : List ℕ} {dst src : ℕ} → Given addingRoutine n s m dst src → Added n s m dst src
+pub adding : {n : ℕ} {s : Cpu} {m : Memory} {dst src : ℕ} → Given addingRoutine n s m dst src → Added n s m dst src
 adding {n = zero} g = absurd (omega arith)
 adding {n = suc r} g = added g
 
 -- and a run with the budget 13n + 4 is these steps: code 0, 13n + 4 cycles spent, 7n + 2 steps, that state and memory
-pub run-adds : {n : ℕ} {s : Cpu} {m : List ℕ} {dst src : ℕ} → Given addingRoutine n s m dst src → (t : Added n s m dst src)
+pub run-adds : {n : ℕ} {s : Cpu} {m : Memory} {dst src : ℕ} → Given addingRoutine n s m dst src → (t : Added n s m dst src)
     → runOf (13 * n + 4) s m ≡ ending 0 (13 * n + 4) (7 * n + 2) (t .cpu) (t .mem)
 run-adds {n} {s} {m} g t =
     run-steps (7 * n + 2) (13 * n + 4) s m (g .memory) (g .f) (omega arith) (omega arith) (t .ran)

@@ -11,10 +11,10 @@ use lib.ListN.{length, getD, length-replicate, getD-replicate}
 use Rattle.arith.specs.Width.{sumOf}
 use Rattle.arith.specs.Words.{further}
 use Rattle.arith.proofs.Laws.{word-back}
-use Rattle.machine.specs.Memory.{byteAt}
+use Rattle.machine.specs.Memory.{Memory, byteAt}
 use Rattle.machine.specs.Interrupts.{pendingOf}
 use Rattle.machine.proofs.ReadOverWrite.{stored-length, stored-same, stored-other}
-use Rattle.routines.specs.Decimals.{Decimal}
+use Rattle.routines.specs.Decimals.{Decimal, Digits}
 use Rattle.routines.specs.Premises.{Apart, Outside, Given}
 use Rattle.routines.specs.Adding.{addingRoutine}
 use Rattle.routines.specs.Edges.{written, allOf, edgeMemory, Edge, edge, edgeCpu, Met, Edges}
@@ -22,12 +22,12 @@ use Rattle.routines.proofs.Fields.{one-on}
 
 -- reading what was written
 
-written-length : (m : List ℕ) (at : ℕ) (bs : List ℕ) → length (written m at bs) ≡ length m
+written-length : (m : Memory) (at : ℕ) (bs : List ℕ) → length (written m at bs) ≡ length m
 unfolding written
 written-length m at [] = refl
 written-length m at (b ∷ bs) = stored-length _ at b ∙ written-length m (at + 1) bs
 
-written-here : (m : List ℕ) (at : ℕ) (bs : List ℕ) → at + length bs ≤ length m → (i : ℕ) → i < length bs
+written-here : (m : Memory) (at : ℕ) (bs : List ℕ) → at + length bs ≤ length m → (i : ℕ) → i < length bs
     → byteAt (written m at bs) (at + i) ≡ getD bs i 0
 unfolding written
 written-here m at [] h i l = absurd (omega arith)
@@ -37,7 +37,7 @@ written-here m at (b ∷ bs) h (suc i) l =
     stored-other (written m (at + 1) bs) at b (at + suc i) (omega arith)
     ∙ rw one-on at (written-here m (at + 1) bs (omega arith) i (omega arith))
 
-written-else : (m : List ℕ) (at : ℕ) (bs : List ℕ) (x : ℕ) → Outside x at (length bs) → byteAt (written m at bs) x ≡ byteAt m x
+written-else : (m : Memory) (at : ℕ) (bs : List ℕ) (x : ℕ) → Outside x at (length bs) → byteAt (written m at bs) x ≡ byteAt m x
 unfolding written
 written-else m at [] x h = refl
 written-else m at (b ∷ bs) x h =
@@ -71,13 +71,10 @@ record Room (x : Edge) : Type 0 where
   stack-high : Outside (further 1 (x .sp)) (x .dst) (x .n)
 
 module _ (x : Edge) (r : Room x) where
-  in-dst : (i : ℕ) → i < x .n → Decimal (byteAt (edgeMemory (x .v) (x .pc)) (x .dst + i))
-  in-dst i h =
-      rw (edge-else (x .v) (x .pc) (x .dst + i) (omega arith) (λ j l. omega (arith, r .dst-clear j i l h))) (r .digits)
-
-  in-src : (i : ℕ) → i < x .n → Decimal (byteAt (edgeMemory (x .v) (x .pc)) (x .src + i))
-  in-src i h =
-      rw (edge-else (x .v) (x .pc) (x .src + i) (omega arith) (λ j l. omega (arith, r .src-clear j i l h))) (r .digits)
+  -- a field that does not touch the routine has the byte v everywhere
+  in-field : (at : ℕ) → at + x .n ≤ 65536 → Apart (x .pc) 10 at (x .n) → Digits (edgeMemory (x .v) (x .pc)) at (x .n)
+  in-field at fits clear i h =
+      rw (edge-else (x .v) (x .pc) (at + i) (omega arith) (λ j l. omega (arith, clear j i l h))) (r .digits)
 
   code-at : (i : ℕ) → i < 10 → byteAt (edgeMemory (x .v) (x .pc)) (x .pc + i) ≡ getD addingRoutine i 0
   unfolding edgeMemory
@@ -106,18 +103,11 @@ module _ (x : Edge) (r : Room x) where
         dst-clear = λ i j a b. omega (arith, r .dst-clear i j (omega arith) (omega arith));
         src-clear = λ i j a b. omega (arith, r .src-clear i j (omega arith) (omega arith));
         fields = fields;
-        dst-digits = in-dst;
-        src-digits = in-src;
+        dst-digits = in-field (x .dst) (r .dst-fits) (r .dst-clear);
+        src-digits = in-field (x .src) (r .src-fits) (r .src-clear);
         stack-low = λ j h. omega (arith, r .stack-low j (omega arith));
         stack-high = λ j h. omega (arith, r .stack-high j (omega arith));
       }
-
--- a source that is the destination, and one apart from it
-same : (x : Edge) → Room x → x .src ≡ x .dst → Met x
-same x r e = met x r (inl e)
-
-apart : (x : Edge) → Room x → Apart (x .src) (x .n) (x .dst) (x .n) → Met x
-apart x r a = met x r (inr a)
 
 pending-at : pendingOf (edgeMemory 0x99 0x0150) ≡ 0x19
 unfolding pendingOf
@@ -127,32 +117,32 @@ pub edges : Edges
 unfolding further sumOf
 edges =
     record {
-      one = apart _ (omega arith) (omega arith);
-      two = apart _ (omega arith) (omega arith);
-      most-in-b = apart _ (omega arith) (omega arith);
-      most = apart _ (omega arith) (omega arith);
-      nought = apart _ (omega arith) (omega arith);
-      nine-low = apart _ (omega arith) (omega arith);
-      nine-high = apart _ (omega arith) (omega arith);
-      doubled = same _ (omega arith) (omega arith);
-      after-dst = apart _ (omega arith) (omega arith);
-      before-dst = apart _ (omega arith) (omega arith);
-      dst-ends = apart _ (omega arith) (omega arith);
-      src-ends = apart _ (omega arith) (omega arith);
-      both-end = same _ (omega arith) (omega arith);
-      dst-begins = apart _ (omega arith) (omega arith);
-      src-begins = apart _ (omega arith) (omega arith);
-      routine-ends = apart _ (omega arith) (omega arith);
-      routine-begins = apart _ (omega arith) (omega arith);
-      dst-then-routine = apart _ (omega arith) (omega arith);
-      routine-then-dst = apart _ (omega arith) (omega arith);
-      src-then-routine = apart _ (omega arith) (omega arith);
-      routine-then-src = apart _ (omega arith) (omega arith);
-      wraps-before-dst = apart _ (omega arith) (omega arith);
-      wraps-after-dst = apart _ (omega arith) (omega arith);
-      stack-then-dst = apart _ (omega arith) (omega arith);
-      dst-then-stack = apart _ (omega arith) (omega arith);
-      stack-in-src = apart _ (omega arith) (omega arith);
-      stack-in-routine = apart _ (omega arith) (omega arith);
+      one = met _ (omega arith) (inr (omega arith));
+      two = met _ (omega arith) (inr (omega arith));
+      most-in-b = met _ (omega arith) (inr (omega arith));
+      most = met _ (omega arith) (inr (omega arith));
+      nought = met _ (omega arith) (inr (omega arith));
+      nine-low = met _ (omega arith) (inr (omega arith));
+      nine-high = met _ (omega arith) (inr (omega arith));
+      doubled = met _ (omega arith) (inl (omega arith));
+      after-dst = met _ (omega arith) (inr (omega arith));
+      before-dst = met _ (omega arith) (inr (omega arith));
+      dst-ends = met _ (omega arith) (inr (omega arith));
+      src-ends = met _ (omega arith) (inr (omega arith));
+      both-end = met _ (omega arith) (inl (omega arith));
+      dst-begins = met _ (omega arith) (inr (omega arith));
+      src-begins = met _ (omega arith) (inr (omega arith));
+      routine-ends = met _ (omega arith) (inr (omega arith));
+      routine-begins = met _ (omega arith) (inr (omega arith));
+      dst-then-routine = met _ (omega arith) (inr (omega arith));
+      routine-then-dst = met _ (omega arith) (inr (omega arith));
+      src-then-routine = met _ (omega arith) (inr (omega arith));
+      routine-then-src = met _ (omega arith) (inr (omega arith));
+      wraps-before-dst = met _ (omega arith) (inr (omega arith));
+      wraps-after-dst = met _ (omega arith) (inr (omega arith));
+      stack-then-dst = met _ (omega arith) (inr (omega arith));
+      dst-then-stack = met _ (omega arith) (inr (omega arith));
+      stack-in-src = met _ (omega arith) (inr (omega arith));
+      stack-in-routine = met _ (omega arith) (inr (omega arith));
       pending = pending-at;
     }

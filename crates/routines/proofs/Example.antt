@@ -12,7 +12,7 @@ use lib.Seq.{getD-append-add}
 use Rattle.arith.specs.Width.{sumOf}
 use Rattle.arith.specs.Words.{wordOf, highOf, lowOf, further}
 use Rattle.machine.specs.State.{cpuOf}
-use Rattle.machine.specs.Memory.{byteAt, wordAt}
+use Rattle.machine.specs.Memory.{Memory, byteAt, wordAt}
 use Rattle.machine.specs.Run.{ending}
 use Rattle.machine.specs.declared.Cpu.{Cpu}
 use Rattle.routines.specs.Decimals.{Decimal, worth, num}
@@ -32,95 +32,62 @@ zeros-length k = length-replicate k 0
 past : (xs ys : List ℕ) (x y : ℕ) → x ≡ length xs + y → getD (xs ++ ys) x 0 ≡ getD ys y 0
 past xs ys x y e = rw e (getD-append-add xs ys y 0)
 
-laid-none : (at : ℕ) → at ≤ 65536 → length (laid at []) + at ≡ 65536
+-- the pieces lie in their order, from an address up, and none past the last byte
+abbrev InOrder : ℕ → List Piece → Type 0
+InOrder at [] = at ≤ 65536
+InOrder at (p ∷ ps) = (at ≤ p .from) × InOrder (p .from + length (p .bytes)) ps
+
+-- the k-th of them, and past the last one with no bytes at the end of the memory
+abbrev pieceAt : ℕ → List Piece → Piece
+pieceAt k ps = getD ps k (piece 65536 [])
+
+above : (at : ℕ) (ps : List Piece) → InOrder at ps → (k : ℕ) → at ≤ pieceAt k ps .from
+above at [] o k = o
+above at (p ∷ ps) o zero = o .0
+above at (p ∷ ps) o (suc k) = omega (arith, o .0, above _ ps (o .1) k)
+
+laid-length : (at : ℕ) (ps : List Piece) → InOrder at ps → length (laid at ps) + at ≡ 65536
 unfolding laid
-laid-none at h = rw zeros-length (omega arith)
+laid-length at [] o = rw zeros-length (omega arith)
+laid-length at (p ∷ ps) o =
+    rw (length-append, length-append, zeros-length) (omega (arith, o .0, laid-length _ ps (o .1)))
 
-module _ (at : ℕ) (p : Piece) (ps : List Piece) (h : at ≤ p .from) where
-  laid-length : length (laid at (p ∷ ps)) + at
-      ≡ length (laid (p .from + length (p .bytes)) ps) + (p .from + length (p .bytes))
-  unfolding laid
-  laid-length = rw (length-append, length-append, zeros-length) (omega arith)
+-- a byte of the k-th piece: x counts from `at`, and i from the piece's first byte
+laid-at : (at : ℕ) (ps : List Piece) → InOrder at ps → (k x i : ℕ) → x + at ≡ pieceAt k ps .from + i → i < length (pieceAt k ps .bytes)
+    → byteAt (laid at ps) x ≡ getD (pieceAt k ps .bytes) i 0
+unfolding laid byteAt
+laid-at at [] o k x i e l = absurd (omega arith)
+laid-at at (p ∷ ps) o zero x i e l =
+    past (zeros (p .from - at)) _ x i (omega (arith, o .0, zeros-length (p .from - at)))
+    ∙ List·getD-append (p .bytes) _ 0 i l
+laid-at at (p ∷ ps) o (suc k) x i e l =
+    let end = p .from + length (p .bytes) in
+    let y = pieceAt k ps .from - end + i in
+    past (zeros (p .from - at)) _ x (length (p .bytes) + y)
+    (omega (arith, o .0, above end ps (o .1) k, zeros-length (p .from - at)))
+    ∙ past (p .bytes) _ (length (p .bytes) + y) y refl
+    ∙ laid-at end ps (o .1) k y i (omega (arith, above end ps (o .1) k)) l
 
-  -- the piece itself, and what lies past it: x counts from `at`, y from the piece's end
-  laid-here : (x i : ℕ) → x + at ≡ p .from + i → i < length (p .bytes) → byteAt (laid at (p ∷ ps)) x ≡ getD (p .bytes) i 0
-  unfolding laid byteAt
-  laid-here x i e l =
-      past (zeros (p .from - at)) _ x i (omega (arith, zeros-length (p .from - at)))
-      ∙ List·getD-append (p .bytes) _ 0 i l
+-- the worked example's memory: the routine, the two numbers, the return address
+abbrev pieces : List Piece
+pieces =
+    piece 0x0150 addingRoutine
+    ∷ piece 0xC000 (0x99 ∷ 0x01 ∷ [])
+    ∷ piece 0xC100 (0x01 ∷ 0x00 ∷ [])
+    ∷ piece 0xDFFE (0x34 ∷ 0x12 ∷ [])
+    ∷ []
 
-  laid-past : (x y : ℕ) → x + at ≡ y + (p .from + length (p .bytes))
-      → byteAt (laid at (p ∷ ps)) x ≡ byteAt (laid (p .from + length (p .bytes)) ps) y
-  unfolding laid byteAt
-  laid-past x y e =
-      past (zeros (p .from - at)) _ x (length (p .bytes) + y) (omega (arith, zeros-length (p .from - at)))
-      ∙ past (p .bytes) _ (length (p .bytes) + y) y refl
-
--- the worked example's memory
-
-abbrev first : List ℕ
-first = 0x99 ∷ 0x01 ∷ []
-
-abbrev second : List ℕ
-second = 0x01 ∷ 0x00 ∷ []
-
-abbrev return : List ℕ
-return = 0x34 ∷ 0x12 ∷ []
-
-abbrev from-stack : List Piece
-from-stack = piece 0xDFFE return ∷ []
-
-abbrev from-second : List Piece
-from-second = piece 0xC100 second ∷ from-stack
-
-abbrev from-first : List Piece
-from-first = piece 0xC000 first ∷ from-second
-
--- as far as each piece: x counts from 0, y from the end of the piece before
-to-first : (x y : ℕ) → x ≡ y + 0x015A → byteAt workedMemory x ≡ byteAt (laid 0x015A from-first) y
-unfolding workedMemory
-to-first x y e = laid-past 0 (piece 0x0150 addingRoutine) from-first (lit≤ tt) x y (omega arith)
-
-to-second : (x y : ℕ) → x ≡ y + 0xC002 → byteAt workedMemory x ≡ byteAt (laid 0xC002 from-second) y
-to-second x y e =
-    to-first x (y + 0xBEA8) (omega arith)
-    ∙ laid-past 0x015A (piece 0xC000 first) from-second (lit≤ tt) (y + 0xBEA8) y (omega arith)
-
-to-stack : (x y : ℕ) → x ≡ y + 0xC102 → byteAt workedMemory x ≡ byteAt (laid 0xC102 from-stack) y
-to-stack x y e =
-    to-second x (y + 0x0100) (omega arith)
-    ∙ laid-past 0xC002 (piece 0xC100 second) from-stack (lit≤ tt) (y + 0x0100) y (omega arith)
+in-order : InOrder 0 pieces
+in-order = omega arith
 
 worked-length : length workedMemory ≡ 65536
 unfolding workedMemory
-worked-length =
-    omega (
-      arith,
-      laid-length 0 (piece 0x0150 addingRoutine) from-first (lit≤ tt),
-      laid-length 0x015A (piece 0xC000 first) from-second (lit≤ tt),
-      laid-length 0xC002 (piece 0xC100 second) from-stack (lit≤ tt),
-      laid-length 0xC102 (piece 0xDFFE return) [] (lit≤ tt),
-      laid-none 0xE000 (lit≤ tt),
-    )
+worked-length = omega (arith, laid-length 0 pieces in-order)
 
-code-at : (i : ℕ) → i < 10 → byteAt workedMemory (0x0150 + i) ≡ getD addingRoutine i 0
+worked-at : (k i : ℕ) → i < length (pieceAt k pieces .bytes)
+    → byteAt workedMemory (pieceAt k pieces .from + i) ≡ getD (pieceAt k pieces .bytes) i 0
 unfolding workedMemory
-code-at i h = laid-here 0 (piece 0x0150 addingRoutine) from-first (lit≤ tt) (0x0150 + i) i (omega arith) h
-
-first-at : (i : ℕ) → i < 2 → byteAt workedMemory (0xC000 + i) ≡ getD first i 0
-first-at i h =
-    to-first (0xC000 + i) (0xBEA6 + i) (omega arith)
-    ∙ laid-here 0x015A (piece 0xC000 first) from-second (lit≤ tt) (0xBEA6 + i) i (omega arith) h
-
-second-at : (i : ℕ) → i < 2 → byteAt workedMemory (0xC100 + i) ≡ getD second i 0
-second-at i h =
-    to-second (0xC100 + i) (0x00FE + i) (omega arith)
-    ∙ laid-here 0xC002 (piece 0xC100 second) from-stack (lit≤ tt) (0x00FE + i) i (omega arith) h
-
-return-at : (i : ℕ) → i < 2 → byteAt workedMemory (0xDFFE + i) ≡ getD return i 0
-return-at i h =
-    to-stack (0xDFFE + i) (0x1EFC + i) (omega arith)
-    ∙ laid-here 0xC102 (piece 0xDFFE return) [] (lit≤ tt) (0x1EFC + i) i (omega arith) h
+worked-at k i = laid-at 0 pieces in-order k _ i (omega arith)
 
 -- where two bytes have digits 0 to 9, so has each of the two
 two-digits : (x y : ℕ) → Decimal x → Decimal y → (i : ℕ) → i < 2 → Decimal (getD (x ∷ y ∷ []) i 0)
@@ -139,7 +106,7 @@ met =
       hl = refl;
       de = refl;
       b = refl;
-      pc = code-at;
+      pc = worked-at 0;
       mode = refl;
       ime = refl;
       f = refl;
@@ -149,20 +116,20 @@ met =
       dst-clear = omega arith;
       src-clear = omega arith;
       fields = inr (omega arith);
-      dst-digits = λ i h. rw (first-at i h) (two-digits 0x99 0x01 (omega arith) (omega arith) i h);
-      src-digits = λ i h. rw (second-at i h) (two-digits 0x01 0x00 (omega arith) (omega arith) i h);
+      dst-digits = λ i h. rw (worked-at 1 i h) (two-digits 0x99 0x01 (omega arith) (omega arith) i h);
+      src-digits = λ i h. rw (worked-at 2 i h) (two-digits 0x01 0x00 (omega arith) (omega arith) i h);
       stack-low = omega arith;
       stack-high = omega arith;
     }
 
 -- 199 + 1 is 200
-num-two : (m : List ℕ) (at : ℕ) → num m at 2 ≡ worth (byteAt m at) + 100 * worth (byteAt m (at + 1))
+num-two : (m : Memory) (at : ℕ) → num m at 2 ≡ worth (byteAt m at) + 100 * worth (byteAt m (at + 1))
 num-two m at = rw (num-suc m at 1, num-suc m (at + 1) 0, num-zero) (omega arith)
 
 only-200 : (x y : ℕ) → Decimal x → Decimal y → worth x + 100 * worth y ≡ 200 → (x ≡ 0x00) × (y ≡ 0x02)
 only-200 x y v w e = omega arith
 
-pub two-hundred : {s : Cpu} {m : List ℕ} {dst src : ℕ} → Given addingRoutine 2 s m dst src
+pub two-hundred : {s : Cpu} {m : Memory} {dst src : ℕ} → Given addingRoutine 2 s m dst src
     → byteAt m dst ≡ 0x99 → byteAt m (dst + 1) ≡ 0x01 → byteAt m src ≡ 0x01 → byteAt m (src + 1) ≡ 0x00
     → TwoHundred s m dst src
 two-hundred {s} {m} {dst} {src} g d₀ d₁ s₀ s₁ =
@@ -176,11 +143,12 @@ two-hundred {s} {m} {dst} {src} g d₀ d₁ s₀ s₁ =
 
 -- the document's line
 worked-sum : TwoHundred workedCpu workedMemory 0xC000 0xC100
-worked-sum = two-hundred met (first-at 0 (lit< tt)) (first-at 1 (lit< tt)) (second-at 0 (lit< tt)) (second-at 1 (lit< tt))
+worked-sum =
+    two-hundred met (worked-at 1 0 (lit< tt)) (worked-at 1 1 (lit< tt)) (worked-at 2 0 (lit< tt)) (worked-at 2 1 (lit< tt))
 
 worked-return : wordAt workedMemory 0xDFFE ≡ 0x1234
 unfolding wordAt wordOf further sumOf
-worked-return = rw (return-at 0 (lit< tt), return-at 1 (lit< tt))
+worked-return = rw (worked-at 3 0 (lit< tt), worked-at 3 1 (lit< tt))
 
 worked-cpu : worked-sum .sum .cpu ≡ printedCpu
 unfolding highOf lowOf further sumOf

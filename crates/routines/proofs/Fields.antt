@@ -9,7 +9,7 @@ use native.Mathlib.Nat.{add-zero, pow-succ'}
 use native.Mathlib.Omega.{arith}
 use lib.Dec.{lit<}
 use lib.ListN.{length, getD}
-use Rattle.machine.specs.Memory.{byteAt, stored}
+use Rattle.machine.specs.Memory.{Memory, byteAt, stored}
 use Rattle.machine.specs.declared.Cpu.{Cpu}
 use Rattle.machine.proofs.ReadOverWrite.{stored-length, stored-same, stored-other}
 use Rattle.routines.specs.Decimals.{Decimal, worth, Digits, num}
@@ -21,16 +21,16 @@ use Rattle.routines.specs.Premises.{Apart, Outside, Given}
 pub one-on : (at i : ℕ) → at + 1 + i ≡ at + suc i
 one-on at i = omega arith
 
-pub num-zero : (m : List ℕ) (at : ℕ) → num m at 0 ≡ 0
+pub num-zero : (m : Memory) (at : ℕ) → num m at 0 ≡ 0
 unfolding num
 num-zero m at = refl
 
-pub num-suc : (m : List ℕ) (at n : ℕ) → num m at (suc n) ≡ worth (byteAt m at) + 100 * num m (at + 1) n
+pub num-suc : (m : Memory) (at n : ℕ) → num m at (suc n) ≡ worth (byteAt m at) + 100 * num m (at + 1) n
 unfolding num
 num-suc m at n = refl
 
 -- a number is what its bytes are
-pub num-same : (m m′ : List ℕ) (at n : ℕ) → ((i : ℕ) → i < n → byteAt m′ (at + i) ≡ byteAt m (at + i))
+pub num-same : (m m′ : Memory) (at n : ℕ) → ((i : ℕ) → i < n → byteAt m′ (at + i) ≡ byteAt m (at + i))
     → num m′ at n ≡ num m at n
 unfolding num
 num-same m m′ at zero h = refl
@@ -42,14 +42,14 @@ num-same m m′ at (suc n) h =
 more-below : (x N P : ℕ) → Decimal x → N < P → worth x + 100 * N < 100 * P
 more-below x N P d h = omega arith
 
-pub num-below : (m : List ℕ) (at n : ℕ) → Digits m at n → num m at n < 100 ^ n
+pub num-below : (m : Memory) (at n : ℕ) → Digits m at n → num m at n < 100 ^ n
 num-below m at zero d = rw num-zero (lit< tt)
 num-below m at (suc n) d =
     let rest = num-below m (at + 1) n (λ i p. rw one-on (d (suc i) (omega arith))) in
     rw (num-suc, pow-succ') (more-below (byteAt m at) _ _ (rw add-zero at (d 0 (omega arith))) rest)
 
 -- the routine at p, and n bytes of the two fields still to be done
-pub record Standing (routine : List ℕ) (p n : ℕ) (m : List ℕ) (dst src : ℕ) : Type 0 where
+pub record Standing (routine : List ℕ) (p n : ℕ) (m : Memory) (dst src : ℕ) : Type 0 where
   pub size : length m ≡ 65536
   pub code : (i : ℕ) → i < length routine → byteAt m (p + i) ≡ getD routine i 0
   pub dst-fits : dst + n ≤ 65536
@@ -61,7 +61,7 @@ pub record Standing (routine : List ℕ) (p n : ℕ) (m : List ℕ) (dst src : �
   pub src-digits : Digits m src n
 
 -- the premises give it, and the two ways in which the fields may lie are one: no byte of the source is stored to before it is read
-module _ {routine : List ℕ} {n : ℕ} {s : Cpu} {m : List ℕ} {dst src : ℕ} (g : Given routine n s m dst src) where
+module _ {routine : List ℕ} {n : ℕ} {s : Cpu} {m : Memory} {dst src : ℕ} (g : Given routine n s m dst src) where
   not-before : (src ≡ dst) ⊎ Apart src n dst n → (i j : ℕ) → j < i → i < n → src + i ≢ dst + j
   not-before (inl same) i j p q = omega arith
   not-before (inr apart) i j p q = apart i j q (omega arith)
@@ -80,15 +80,15 @@ module _ {routine : List ℕ} {n : ℕ} {s : Cpu} {m : List ℕ} {dst src : ℕ}
       }
 
 -- n bytes of a destination filled with digits, and nothing else touched
-pub record Filled (n : ℕ) (m mem : List ℕ) (dst : ℕ) : Type 0 where
+pub record Filled (n : ℕ) (m mem : Memory) (dst : ℕ) : Type 0 where
   pub digits : Digits mem dst n
   pub kept : (at : ℕ) → Outside at dst n → byteAt mem at ≡ byteAt m at
   pub size : length mem ≡ length m
 
-pub filled-none : (m : List ℕ) (dst : ℕ) → Filled 0 m m dst
+pub filled-none : (m : Memory) (dst : ℕ) → Filled 0 m m dst
 filled-none m dst = record { digits = λ i h. absurd (omega arith); kept = λ at h. refl; size = refl }
 
-module _ {routine : List ℕ} {p n : ℕ} {m : List ℕ} {dst src : ℕ} (y : Standing routine p (suc n) m dst src) where
+module _ {routine : List ℕ} {p n : ℕ} {m : Memory} {dst src : ℕ} (y : Standing routine p (suc n) m dst src) where
   pub dst-within : dst < length m
   dst-within = omega arith
 
@@ -130,7 +130,7 @@ module _ {routine : List ℕ} {p n : ℕ} {m : List ℕ} {dst src : ℕ} (y : St
     src-number = num-same m (stored m dst v) (src + 1) n rest-of-src
 
     -- with the rest filled, the whole is
-    module _ {mem : List ℕ} (w : Filled n (stored m dst v) mem (dst + 1)) where
+    module _ {mem : Memory} (w : Filled n (stored m dst v) mem (dst + 1)) where
       pub filled-first : byteAt mem dst ≡ v
       filled-first = w .kept dst (λ j h. omega arith) ∙ stored-same m dst v dst-within
 

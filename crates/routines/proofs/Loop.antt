@@ -3,7 +3,6 @@
 -- Assumes nothing.
 use Prim.Native.Nat.{ℕ, zero, suc, _+_, _*_, _%_, _^_, _<_, _≤_}
 use mathlib.Core.Bool.{Bool}
-use mathlib.Core.List.{List}
 use mathlib.Core.Logic.{_≢_}
 use mathlib.Core.Path.{_≡_, _∙_}
 use native.Mathlib.Nat.{add-zero, pow-succ'}
@@ -13,7 +12,7 @@ use Rattle.arith.specs.Flags.{cOf}
 use Rattle.arith.specs.Bytes.{decreasedOf}
 use Rattle.arith.specs.Words.{wordOf}
 use Rattle.arith.proofs.Laws.{decreased-fits}
-use Rattle.machine.specs.Memory.{byteAt, stored}
+use Rattle.machine.specs.Memory.{Memory, byteAt, stored}
 use Rattle.machine.specs.declared.Cpu.{Cpu}
 use Rattle.routines.specs.Decimals.{worth, num}
 use Rattle.routines.specs.Adding.{addingRoutine}
@@ -26,15 +25,15 @@ use Rattle.routines.proofs.Tail.{between, finished}
 use Rattle.routines.proofs.Turn.{turned, turn-last, turn-on}
 
 -- n bytes of `mem` are the sum of n bytes of m and n more, with the carry k that came in, up to what the carry `over` is worth
-pub record Sum (n : ℕ) (m mem : List ℕ) (dst src : ℕ) (k over : Bool) : Type 0 where
+pub record Sum (n : ℕ) (m mem : Memory) (dst src : ℕ) (k over : Bool) : Type 0 where
   pub filled : Filled n m mem dst
   pub number : num mem dst n + 100 ^ n * oneIf over ≡ num m dst n + num m src n + oneIf k
 
-sum-none : (m : List ℕ) (dst src : ℕ) (k : Bool) → Sum 0 m m dst src k k
+sum-none : (m : Memory) (dst src : ℕ) (k : Bool) → Sum 0 m m dst src k k
 sum-none m dst src k = record { filled = filled-none m dst; number = rw (num-zero m dst, num-zero m src) (omega arith) }
 
-module _ {p n : ℕ} {m : List ℕ} {dst src : ℕ} (y : Standing addingRoutine p (suc n) m dst src) (f : ℕ) where
-  sum-more : {mem : List ℕ} {over : Bool}
+module _ {p n : ℕ} {m : Memory} {dst src : ℕ} (y : Standing addingRoutine p (suc n) m dst src) (f : ℕ) where
+  sum-more : {mem : Memory} {over : Bool}
       → Sum n (stored m dst (turned m dst src f .value)) mem (dst + 1) (src + 1) (cOf (turned m dst src f .flags)) over
       → Sum (suc n) m mem dst src (cOf f) over
   sum-more {mem} w =
@@ -52,19 +51,13 @@ module _ {p n : ℕ} {m : List ℕ} {dst src : ℕ} (y : Standing addingRoutine 
       }
 
 -- r + 1 bytes done, from a state at LD A,[DE] to RET at `at`
-pub record Looped (r : ℕ) (s : Cpu) (m : List ℕ) (dst src : ℕ) (k : Bool) (c sp at : ℕ) : Type 0 where
-  pub mem : List ℕ
+pub record Looped (r : ℕ) (s : Cpu) (m : Memory) (dst src : ℕ) (k : Bool) (c sp at : ℕ) : Type 0 where
+  pub mem : Memory
   pub over : Bool
   pub ran : Takes (7 * suc r) (13 * r + 12) s m (finished (byteAt mem (dst + r)) over c (suc r) dst src sp at) mem
   pub sum : Sum (suc r) m mem dst src k over
 
-seven : (r : ℕ) → 7 + 7 * suc r ≡ 7 * suc (suc r)
-seven r = omega arith
-
-thirteen : (r : ℕ) → 13 + (13 * r + 12) ≡ 13 * suc r + 12
-thirteen r = omega arith
-
-module _ {p : ℕ} (fits : p + 10 ≤ 65536) {m : List ℕ} {dst src a f b c d e h l sp : ℕ} (low : f % 16 ≡ 0) (de : wordOf d e ≡ src)
+module _ {p : ℕ} (fits : p + 10 ≤ 65536) {m : Memory} {dst src a f b c d e h l sp : ℕ} (low : f % 16 ≡ 0) (de : wordOf d e ≡ src)
     (hl : wordOf h l ≡ dst) where
   loop-last : Standing addingRoutine p 1 m dst src → b ≡ 1
       → Looped 0 (running a f b c d e h l sp (p + 1)) m dst src (cOf f) c sp (p + 9)
@@ -89,12 +82,12 @@ module _ {p : ℕ} (fits : p + 10 ≤ 65536) {m : List ℕ} {dst src a f b c d e
       record {
         mem = t .mem;
         over = t .over;
-        ran = recount (seven r) (thirteen r) (turn-on y fits low de hl more then rest);
+        ran = recount (turn-on y fits low de hl more then rest) (omega arith) (omega arith);
         sum = sum-more y f (rw decreased-c at (t .sum));
       }
 
 -- n bytes are left, B counts them
-pub loop : (r : ℕ) {p : ℕ} {m : List ℕ} {dst src a f b c d e h l sp : ℕ} → p + 10 ≤ 65536 → f % 16 ≡ 0 → wordOf d e ≡ src
+pub loop : (r : ℕ) {p : ℕ} {m : Memory} {dst src a f b c d e h l sp : ℕ} → p + 10 ≤ 65536 → f % 16 ≡ 0 → wordOf d e ≡ src
     → wordOf h l ≡ dst → Standing addingRoutine p (suc r) m dst src → r < 256 → b ≡ suc r % 256
     → Looped r (running a f b c d e h l sp (p + 1)) m dst src (cOf f) c sp (p + 9)
 loop zero fits low de hl y most count = loop-last fits low de hl y count

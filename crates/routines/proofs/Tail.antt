@@ -14,7 +14,7 @@ use Rattle.arith.specs.Flags.{flagsOf, cOf}
 use Rattle.arith.specs.Bytes.{decreasedOf}
 use Rattle.arith.specs.Words.{wordOf, highOf, lowOf, further, offsetOf}
 use Rattle.arith.proofs.Laws.{flags-low, z-back, decreased-fits}
-use Rattle.machine.specs.Memory.{stored}
+use Rattle.machine.specs.Memory.{Memory, stored}
 use Rattle.machine.specs.declared.Cpu.{Cpu}
 use Rattle.routines.proofs.Stepping.{Takes, _then_}
 use Rattle.routines.proofs.Opcodes.{running, store-a-hli, inc-de, dec-b, jr-nz-taken, jr-nz-not}
@@ -45,7 +45,7 @@ pub record Ends (routine : List ℕ) (q back : ℕ) : Type 0 where
 two-on : (p q : ℕ) → p + (q + 5) < 65536 → further 1 (further 1 (p + (q + 3))) ≡ p + (q + 5)
 two-on p q h = rw (next (p + (q + 3)) (p + (q + 4)) (omega arith)) (next _ _ (omega arith))
 
-module _ {routine : List ℕ} {q back p n : ℕ} {m : List ℕ} {dst src : ℕ} (x : Ends routine q back)
+module _ {routine : List ℕ} {q back p n : ℕ} {m : Memory} {dst src : ℕ} (x : Ends routine q back)
     (y : Standing routine p (suc n) m dst src) (fits : p + (q + 5) < 65536) {v f b c d e h l sp : ℕ} (low : f % 16 ≡ 0)
     (de : wordOf d e ≡ src) (hl : wordOf h l ≡ dst) where
   -- three steps, up to JR

@@ -1,7 +1,6 @@
 -- One turn of the adding routine's loop: seven steps that store one byte of the sum.
 -- Assumes nothing.
 use Prim.Native.Nat.{ℕ, suc, _+_, _%_, _<_, _≤_}
-use mathlib.Core.List.{List}
 use mathlib.Core.Logic.{_≢_}
 use mathlib.Core.Path.{_≡_, refl}
 use native.Mathlib.Omega.{arith}
@@ -12,7 +11,7 @@ use Rattle.arith.specs.Bytes.{addedOf, aluOf, decreasedOf}
 use Rattle.arith.specs.Words.{wordOf, offsetBy, offsetOf}
 use Rattle.arith.proofs.Laws.{flags-low}
 use Rattle.arith.specs.declared.Byte.{Byte}
-use Rattle.machine.specs.Memory.{byteAt, stored}
+use Rattle.machine.specs.Memory.{Memory, byteAt, stored}
 use Rattle.routines.specs.Adding.{addingRoutine}
 use Rattle.routines.proofs.Stepping.{Takes, _then_}
 use Rattle.routines.proofs.Opcodes.{running, load-a-de, adc-a-hl, daa}
@@ -27,14 +26,14 @@ unfolding offsetOf offsetBy differenceOf
 jumped p h = omega arith
 
 -- the byte that a turn stores, with its F
-abbrev pub turned : List ℕ → ℕ → ℕ → ℕ → Byte
+abbrev pub turned : Memory → ℕ → ℕ → ℕ → Byte
 turned m dst src f = adjusted (addedOf (byteAt m src) (byteAt m dst) (cOf f))
 
 -- the end of the turn in the routine
 ends : Ends addingRoutine 4 0xF8
 ends = record { within = lit< tt; store = refl; inc = refl; dec = refl; jr = refl; offset = refl }
 
-module _ {p r : ℕ} {m : List ℕ} {dst src : ℕ} (y : Standing addingRoutine p (suc r) m dst src) (fits : p + 10 ≤ 65536)
+module _ {p r : ℕ} {m : Memory} {dst src : ℕ} (y : Standing addingRoutine p (suc r) m dst src) (fits : p + 10 ≤ 65536)
     {a f b c d e h l sp : ℕ} (low : f % 16 ≡ 0) (de : wordOf d e ≡ src) (hl : wordOf h l ≡ dst) where
   -- three steps, up to LD [HLI],A
   summed : Takes 3 5 (running a f b c d e h l sp (p + 1)) m

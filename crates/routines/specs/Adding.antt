@@ -7,11 +7,11 @@ use mathlib.Core.Path.{_≡_}
 use lib.Dec.{leb}
 use lib.ListN.{length}
 use Rattle.arith.specs.Words.{highOf, lowOf, further}
-use Rattle.machine.specs.Memory.{byteAt, wordAt}
+use Rattle.machine.specs.Memory.{Memory, byteAt, wordAt}
 use Rattle.machine.specs.Step.{stepped}
 use Rattle.machine.specs.declared.Cpu.{Cpu}
 use Rattle.routines.specs.Decimals.{Digits, num}
-use Rattle.routines.specs.Steps.{after}
+use Rattle.routines.specs.Steps.{afterSteps}
 use Rattle.routines.specs.Premises.{Outside}
 
 -- AND A; LD A,[DE]; ADC A,[HL]; DAA; LD [HLI],A; INC DE; DEC B; JR NZ back to the second; RET
@@ -23,11 +23,11 @@ abbrev pub endFlags : Bool → ℕ
 endFlags true = 0xD0
 endFlags false = 0xC0
 
-pub record Added (n : ℕ) (s : Cpu) (m : List ℕ) (dst src : ℕ) : Type 0 where
+pub record Added (n : ℕ) (s : Cpu) (m : Memory) (dst src : ℕ) : Type 0 where
   -- the state and the memory after 7n + 2 steps, none refused, in 13n + 4 cycles
   pub cpu : Cpu
-  pub mem : List ℕ
-  pub ran : after (7 * n + 2) s m ≡ stepped 0 (13 * n + 4) cpu mem
+  pub mem : Memory
+  pub ran : afterSteps (7 * n + 2) s m ≡ stepped 0 (13 * n + 4) cpu mem
   -- the destination holds the sum modulo 100 to the power n, as digits
   pub sum : num mem dst n ≡ (num m dst n + num m src n) % 100 ^ n
   pub digits : Digits mem dst n

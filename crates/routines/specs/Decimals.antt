@@ -1,8 +1,7 @@
 -- Decimal numbers as they lie in memory: two digits to a byte, the least byte first. Document 01, "The adding routine".
 -- Assumes nothing.
 use Prim.Native.Nat.{ℕ, zero, suc, _+_, _*_, _/_, _%_, _<_}
-use mathlib.Core.List.{List}
-use Rattle.machine.specs.Memory.{byteAt}
+use Rattle.machine.specs.Memory.{Memory, byteAt}
 
 -- a byte with digits 0 to 9
 pub record Decimal (x : ℕ) : Type 0 where
@@ -14,10 +13,10 @@ abbrev pub worth : ℕ → ℕ
 worth x = x / 16 * 10 + x % 16
 
 -- every byte of the field of n bytes from `at` upward has digits 0 to 9
-abbrev pub Digits : List ℕ → ℕ → ℕ → Type 0
+abbrev pub Digits : Memory → ℕ → ℕ → Type 0
 Digits m at n = (i : ℕ) → i < n → Decimal (byteAt m (at + i))
 
 -- the number in the field of n bytes from `at` upward
-unfoldable pub num : List ℕ → ℕ → ℕ → ℕ
+unfoldable pub num : Memory → ℕ → ℕ → ℕ
 num m at zero = 0
 num m at (suc n) = worth (byteAt m at) + 100 * num m (at + 1) n

@@ -7,7 +7,7 @@ use mathlib.Core.Path.{_≡_}
 use lib.ListN.{replicate}
 use Rattle.arith.specs.Words.{highOf, lowOf}
 use Rattle.machine.specs.State.{cpuOf}
-use Rattle.machine.specs.Memory.{stored}
+use Rattle.machine.specs.Memory.{Memory, stored}
 use Rattle.machine.specs.Interrupts.{pendingOf}
 use Rattle.machine.specs.declared.Ime.the-variants.{Off}
 use Rattle.machine.specs.declared.Mode.the-variants.{Running}
@@ -16,15 +16,15 @@ use Rattle.routines.specs.Premises.{Given}
 use Rattle.routines.specs.Adding.{addingRoutine}
 
 -- bytes written from an address upward
-unfoldable pub written : List ℕ → ℕ → List ℕ → List ℕ
+unfoldable pub written : Memory → ℕ → List ℕ → Memory
 written m at [] = m
 written m at (b ∷ bs) = stored (written m (at + 1) bs) at b
 
-unfoldable pub allOf : ℕ → List ℕ
+unfoldable pub allOf : ℕ → Memory
 allOf v = replicate 65536 v
 
 -- the memory that holds the routine at pc, and the byte v everywhere else, $FFFF and $FF0F among it
-unfoldable pub edgeMemory : ℕ → ℕ → List ℕ
+unfoldable pub edgeMemory : ℕ → ℕ → Memory
 edgeMemory v pc = written (allOf v) pc addingRoutine
 
 -- how many bytes, the byte v, F, PC, the first bytes of the destination and the source, SP; A is $5A and C is $A5

@@ -7,7 +7,7 @@ use mathlib.Core.Logic.{_≢_}
 use mathlib.Core.Path.{_≡_}
 use lib.ListN.{length, replicate}
 use Rattle.machine.specs.State.{cpuOf}
-use Rattle.machine.specs.Memory.{byteAt}
+use Rattle.machine.specs.Memory.{Memory, byteAt}
 use Rattle.machine.specs.Run.{ending, runOf}
 use Rattle.machine.specs.declared.Ime.the-variants.{Off}
 use Rattle.machine.specs.declared.Mode.the-variants.{Running}
@@ -26,11 +26,11 @@ unfoldable pub zeros : ℕ → List ℕ
 zeros k = replicate k 0
 
 -- the memory from an address up to $FFFF that holds these pieces, in order, and 0 elsewhere
-unfoldable pub laid : ℕ → List Piece → List ℕ
+unfoldable pub laid : ℕ → List Piece → Memory
 laid at [] = zeros (65536 - at)
 laid at (p ∷ ps) = zeros (p .from - at) ++ (p .bytes ++ laid (p .from + length (p .bytes)) ps)
 
-unfoldable pub workedMemory : List ℕ
+unfoldable pub workedMemory : Memory
 workedMemory =
     laid 0
     (piece 0x0150 addingRoutine
@@ -49,7 +49,7 @@ abbrev pub printedCpu : Cpu
 printedCpu = cpuOf 0x02 0xC0 0 0 0xC1 0x02 0xC0 0x02 0xE000 0x1234 Off Running
 
 -- wherever the bytes lie: 99 01 and 01 00 give 00 02, and no overflow
-pub record TwoHundred (s : Cpu) (m : List ℕ) (dst src : ℕ) : Type 0 where
+pub record TwoHundred (s : Cpu) (m : Memory) (dst src : ℕ) : Type 0 where
   pub sum : Added 2 s m dst src
   pub low : byteAt (sum .mem) dst ≡ 0x00
   pub high : byteAt (sum .mem) (dst + 1) ≡ 0x02
@@ -57,7 +57,7 @@ pub record TwoHundred (s : Cpu) (m : List ℕ) (dst src : ℕ) : Type 0 where
 
 -- what a run of 30 cycles gives: the printed line, 00 02 in the destination, and every other byte as it was
 pub record Worked : Type 0 where
-  pub mem : List ℕ
+  pub mem : Memory
   pub line : runOf 30 workedCpu workedMemory ≡ ending 0 30 16 printedCpu mem
   pub low : byteAt mem 0xC000 ≡ 0x00
   pub high : byteAt mem 0xC001 ≡ 0x02

@@ -9,7 +9,7 @@ use mathlib.Core.Logic.{_⊎_, _≢_}
 use mathlib.Core.Path.{_≡_}
 use lib.ListN.{length, getD}
 use Rattle.arith.specs.Words.{wordOf, further}
-use Rattle.machine.specs.Memory.{byteAt}
+use Rattle.machine.specs.Memory.{Memory, byteAt}
 use Rattle.machine.specs.declared.Ime.the-variants.{Off}
 use Rattle.machine.specs.declared.Mode.the-variants.{Running}
 use Rattle.machine.specs.declared.Cpu.{Cpu}
@@ -23,7 +23,7 @@ Apart at k to n = (i j : ℕ) → i < k → j < n → at + i ≢ to + j
 abbrev pub Outside : ℕ → ℕ → ℕ → Type 0
 Outside at to n = (j : ℕ) → j < n → at ≢ to + j
 
-pub record Given (routine : List ℕ) (n : ℕ) (s : Cpu) (m : List ℕ) (dst src : ℕ) : Type 0 where
+pub record Given (routine : List ℕ) (n : ℕ) (s : Cpu) (m : Memory) (dst src : ℕ) : Type 0 where
   -- numbers of 1 to 256 bytes; the memory is 65,536 bytes
   pub n-least : 1 ≤ n
   pub n-most : n ≤ 256

@@ -1,8 +1,8 @@
 -- Several steps in a row: the cycles add up, and a refused step is the last.
 -- Assumes nothing.
 use Prim.Native.Nat.{ℕ, zero, suc, _+_}
-use mathlib.Core.List.{List}
 use Rattle.machine.specs.Answers.{With}
+use Rattle.machine.specs.Memory.{Memory}
 use Rattle.machine.specs.Step.{stepped, stepOf}
 use Rattle.machine.specs.declared.Cpu.{Cpu}
 use Rattle.machine.specs.declared.Stepped.{Stepped}
@@ -21,5 +21,5 @@ moreSteps zero w = w
 moreSteps (suc k) w = moreSteps k (oneMore (w .out .code) w)
 
 -- k steps in a row. Its code is 0 exactly if none of them is refused
-unfoldable pub after : ℕ → Cpu → List ℕ → With Stepped
-after k s m = moreSteps k (stepped 0 0 s m)
+unfoldable pub afterSteps : ℕ → Cpu → Memory → With Stepped
+afterSteps k s m = moreSteps k (stepped 0 0 s m)

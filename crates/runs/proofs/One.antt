@@ -2,20 +2,20 @@
 -- Assumes nothing.
 use Prim.Native.Nat.{ℕ, zero, suc, _<_, _≤_}
 use mathlib.Core.Bool.{Bool, true, false}
-use mathlib.Core.List.{List}
 use mathlib.Core.Logic.{_≢_}
 use mathlib.Core.Path.{_≡_, refl, sym, _∙_, ap}
 use native.Mathlib.Omega.{arith}
 use borrow.Author.Tests.{ltb-true, ltb-false}
 use lib.Dec.{ltb}
 use Rattle.machine.specs.Answers.{With}
+use Rattle.machine.specs.Memory.{Memory}
 use Rattle.machine.specs.declared.Cpu.{Cpu}
 use Rattle.machine.specs.declared.Ran.{Ran}
 use Rattle.machine.specs.declared.Stepped.{Stepped}
-use Rattle.routines.specs.Steps.{after}
+use Rattle.routines.specs.Steps.{afterSteps}
 use Rattle.runs.specs.Stepwise.{stepAfter, costs, Stepwise}
 
-module _ {b : ℕ} {s : Cpu} {m : List ℕ} where
+module _ {b : ℕ} {s : Cpu} {m : Memory} where
   module _ {w v : With Ran} (x : Stepwise b s m w) (y : Stepwise b s m v) where
     -- the other run has no step more: it would be one that was not due, or one that was refused
     at-most : (n : ℕ) → w .out .code ≡ n → (d : Bool) → ltb (w .out .steps) (v .out .steps) ≡ d → v .out .steps ≤ w .out .steps
@@ -32,8 +32,8 @@ module _ {b : ℕ} {s : Cpu} {m : List ℕ} where
     same-steps : w .out .steps ≡ v .out .steps
     same-steps = omega (arith, no-more x y, no-more y x)
 
-    same-after : after (w .out .steps) s m ≡ after (v .out .steps) s m
-    same-after = ap (λ (k : ℕ). after k s m) same-steps
+    same-after : afterSteps (w .out .steps) s m ≡ afterSteps (v .out .steps) s m
+    same-after = ap (λ (k : ℕ). afterSteps k s m) same-steps
 
     same-spent : w .out .spent ≡ v .out .spent
     same-spent = x .spent ∙ ap (λ (k : ℕ). costs k s m) same-steps ∙ sym (y .spent)

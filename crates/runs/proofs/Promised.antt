@@ -3,7 +3,6 @@
 -- alone, and a promise that says less does not have them.
 -- Assumes nothing.
 use Prim.Native.Nat.{ℕ, _+_, _*_, _%_, _≤_}
-use mathlib.Core.List.{List}
 use mathlib.Core.Path.{_≡_, sym, _∙_, ap}
 use contract.Lifetimes.{Lfts}
 use borrow.Fn.Kinds.{Dens, resT, endedOf}
@@ -12,6 +11,7 @@ use denote.Ref.{now}
 use native.Mathlib.Omega.{arith}
 use lib.ListN.{length}
 use Rattle.machine.specs.Answers.{With, Gives}
+use Rattle.machine.specs.Memory.{Memory}
 use Rattle.machine.specs.Run.{runOf}
 use Rattle.machine.specs.declared.Cpu.{Cpu}
 use Rattle.machine.specs.declared.Ran.{Ran}
@@ -25,15 +25,15 @@ use Rattle.runs.specs.Outcome.{AddedBy}
 use Rattle.runs.proofs.Stepwise.{run-stepwise}
 
 -- an outcome that meets a promise is the one that is promised
-outcome : {w : With Ran} {r : Ran} {left : List ℕ} → Gives w r left → w ≡ record { out = r; mem = left }
+outcome : {w : With Ran} {r : Ran} {left : Memory} → Gives w r left → w ≡ record { out = r; mem = left }
 outcome g = λ i. record { out = sym (g .answers) i; mem = sym (g .leaves) i }
 
 -- of what is stated by `Gives`
-pub stepwise-given : {b : ℕ} {s : Cpu} {m : List ℕ} {r : Ran} {left : List ℕ} → Gives (runOf b s m) r left
+pub stepwise-given : {b : ℕ} {s : Cpu} {m : Memory} {r : Ran} {left : Memory} → Gives (runOf b s m) r left
     → length m ≡ 65536 → s .f % 16 ≡ 0 → b ≤ 1048576 → Stepwise b s m (record { out = r; mem = left })
 stepwise-given {b} {s} {m} g l f p = rw (outcome g) at (run-stepwise b s m l f p)
 
-pub added-given : {n b : ℕ} {s : Cpu} {m : List ℕ} {dst src : ℕ} {r : Ran} {left : List ℕ} → Gives (runOf b s m) r left
+pub added-given : {n b : ℕ} {s : Cpu} {m : Memory} {dst src : ℕ} {r : Ran} {left : Memory} → Gives (runOf b s m) r left
     → b ≡ 13 * n + 4 → Given addingRoutine n s m dst src → AddedBy n s m dst src r left
 added-given {n} {b} {s} {m} {r = r} g e h =
     let t = adding h in

@@ -7,19 +7,12 @@ use Rattle.arith.proofs.Width.{carry-whole}
 use Rattle.arith.proofs.bytes.add.Statement.{statement}
 use Rattle.arith.proofs.bytes.add.Tie as tie
 
-returns : tie.Need-returns
-unfolding addedOf sumOf
-returns c =
-    let a = c .before .before .before .args in
-    rw (
-      c .pack .ensures,
-      c .before .half-carry .ensures,
-      c .before .before .one-if .ensures .0,
-      carry-whole 8 (a .a) (a .b) (oneIf (a .k)) (omega arith) (omega arith),
-    )
-
 pub add-spec : {M : Type 1} → statement M
+unfolding addedOf sumOf
 add-spec =
-    tie.close
-    (tie.spec (search needs) (search needs) (search needs) (search needs) (search needs) (search needs)
-    (search needs) returns)
+    tie.close (tie.spec
+    (search needs) (search needs) (search needs) (search needs) (search needs) (search needs) (search needs)
+    (λ c.
+    let a = c .before .before .before .args in
+    rw (c .pack .ensures, c .before .half-carry .ensures, c .before .before .one-if .ensures .0)
+    (rw (carry-whole 8 (a .a) (a .b) (oneIf (a .k)) (omega arith) (omega arith)))))

@@ -5,9 +5,6 @@ use Rattle.arith.specs.Bytes.{bitOf}
 use Rattle.arith.proofs.bytes.bit.Statement.{statement}
 use Rattle.arith.proofs.bytes.bit.Tie as tie
 
-returns : tie.Need-returns
-unfolding bitOf
-returns c = refl
-
 pub bit-spec : {M : Type 1} → statement M
-bit-spec = tie.close (tie.spec (search needs) returns)
+unfolding bitOf
+bit-spec = tie.close (tie.spec (search needs) (λ c. refl))

@@ -8,14 +8,12 @@ use Rattle.arith.specs.Bytes.{decreasedOf}
 use Rattle.arith.proofs.bytes.decrease.Statement.{statement}
 use Rattle.arith.proofs.bytes.decrease.Tie as tie
 
-returns : tie.Need-returns
+pub decrease-spec : {M : Type 1} → statement M
 unfolding decreasedOf differenceOf
-returns c =
+decrease-spec =
+    tie.close (tie.spec
+    (search needs) (search needs) (search needs) (search needs) (search needs)
+    (λ c.
     let v = c .before .before .before .args .v in
     let e : v + 256 - 1 ≡ v + 255 = omega arith in
-    rw (c .pack .ensures, c .before .carry .ensures, c .before .before .half-borrow .ensures, e)
-
-pub decrease-spec : {M : Type 1} → statement M
-decrease-spec =
-    tie.close
-    (tie.spec (search needs) (search needs) (search needs) (search needs) (search needs) returns)
+    rw (c .pack .ensures, c .before .carry .ensures, c .before .before .half-borrow .ensures, e)))

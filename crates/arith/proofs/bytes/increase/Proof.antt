@@ -6,11 +6,9 @@ use Rattle.arith.specs.Bytes.{increasedOf}
 use Rattle.arith.proofs.bytes.increase.Statement.{statement}
 use Rattle.arith.proofs.bytes.increase.Tie as tie
 
-returns : tie.Need-returns
-unfolding increasedOf sumOf
-returns c = simp (c .pack .ensures, c .before .carry .ensures, c .before .before .half-carry .ensures, add-zero)
-
 pub increase-spec : {M : Type 1} → statement M
+unfolding increasedOf sumOf
 increase-spec =
-    tie.close
-    (tie.spec (search needs) (search needs) (search needs) (search needs) (search needs) returns)
+    tie.close (tie.spec
+    (search needs) (search needs) (search needs) (search needs) (search needs)
+    (λ c. simp (c .pack .ensures, c .before .carry .ensures, c .before .before .half-carry .ensures, add-zero)))

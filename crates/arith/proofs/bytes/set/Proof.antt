@@ -5,9 +5,6 @@ use Rattle.arith.proofs.Laws.{one-hot}
 use Rattle.arith.proofs.bytes.set.Statement.{statement}
 use Rattle.arith.proofs.bytes.set.Tie as tie
 
-returns : tie.Need-returns
-unfolding setOf
-returns c = rw one-hot
-
 pub set-spec : {M : Type 1} → statement M
-set-spec = tie.close (tie.spec (search needs) returns)
+unfolding setOf
+set-spec = tie.close (tie.spec (search needs) (λ c. rw one-hot))

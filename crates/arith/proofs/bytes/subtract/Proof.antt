@@ -7,19 +7,12 @@ use Rattle.arith.proofs.Width.{borrow-whole}
 use Rattle.arith.proofs.bytes.subtract.Statement.{statement}
 use Rattle.arith.proofs.bytes.subtract.Tie as tie
 
-returns : tie.Need-returns
-unfolding subtractedOf differenceOf
-returns c =
-    let a = c .before .before .before .args in
-    rw (
-      c .pack .ensures,
-      c .before .half-borrow .ensures,
-      c .before .before .one-if .ensures .0,
-      borrow-whole 8 (a .a) (a .b) (oneIf (a .k)) (omega arith) (omega arith),
-    )
-
 pub subtract-spec : {M : Type 1} → statement M
+unfolding subtractedOf differenceOf
 subtract-spec =
-    tie.close
-    (tie.spec (search needs) (search needs) (search needs) (search needs) (search needs) (search needs)
-    (search needs) (search needs) returns)
+    tie.close (tie.spec
+    (search needs) (search needs) (search needs) (search needs) (search needs) (search needs) (search needs) (search needs)
+    (λ c.
+    let a = c .before .before .before .args in
+    rw (c .pack .ensures, c .before .half-borrow .ensures, c .before .before .one-if .ensures .0)
+    (rw (borrow-whole 8 (a .a) (a .b) (oneIf (a .k)) (omega arith) (omega arith)))))

@@ -4,9 +4,9 @@ use Rattle.arith.specs.Bytes.{testedOf}
 use Rattle.arith.proofs.bytes.test.Statement.{statement}
 use Rattle.arith.proofs.bytes.test.Tie as tie
 
-returns : tie.Need-returns
-unfolding testedOf
-returns c = rw (c .pack .ensures, c .before .carry .ensures, c .before .before .bit .ensures)
-
 pub test-spec : {M : Type 1} → statement M
-test-spec = tie.close (tie.spec (search needs) (search needs) (search needs) returns)
+unfolding testedOf
+test-spec =
+    tie.close (tie.spec
+    (search needs) (search needs) (search needs)
+    (λ c. rw (c .pack .ensures, c .before .carry .ensures, c .before .before .bit .ensures)))

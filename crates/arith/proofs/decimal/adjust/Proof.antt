@@ -4,29 +4,14 @@ use Rattle.arith.specs.Decimal.{decimalOf, byLast}
 use Rattle.arith.proofs.decimal.adjust.Statement.{statement}
 use Rattle.arith.proofs.decimal.adjust.Tie as tie
 
-returns : tie.Need-returns
-unfolding decimalOf byLast
-returns c =
-    rw (
-      c .after-subtraction .ensures,
-      c .before .before .before .carry .ensures,
-      c .before .before .before .before .half .ensures,
-      ← (c .before .before .negative .ensures),
-      c .before .if1 .taken,
-    )
-
-returns-2 : tie.Need-returns-2
-unfolding decimalOf byLast
-returns-2 c =
-    rw (
-      c .after-addition .ensures,
-      c .before .before .before .carry .ensures,
-      c .before .before .before .before .half .ensures,
-      ← (c .before .before .negative .ensures),
-      c .before .if1 .left,
-    )
-
 pub adjust-spec : {M : Type 1} → statement M
+unfolding decimalOf byLast
 adjust-spec =
-    tie.close
-    (tie.spec (search needs) (search needs) (search needs) (search needs) (search needs) returns returns-2)
+    tie.close (tie.spec
+    (search needs) (search needs) (search needs) (search needs) (search needs)
+    (λ c.
+    rw (c .after-subtraction .ensures, c .before .before .before .carry .ensures, c .before .before .before .before .half .ensures)
+    (rw (← (c .before .before .negative .ensures), c .before .if1 .taken)))
+    (λ c.
+    rw (c .after-addition .ensures, c .before .before .before .carry .ensures, c .before .before .before .before .half .ensures)
+    (rw (← (c .before .before .negative .ensures), c .before .if1 .left))))

@@ -5,9 +5,9 @@ use native.Mathlib.Omega.{arith}
 use Rattle.arith.proofs.decimal.adjustment.Statement.{statement}
 use Rattle.arith.proofs.decimal.adjustment.Tie as tie
 
-returns : tie.Need-returns
-unfolding adjustmentOf
-returns c = (rw (c .weight2 .ensures .0, c .before .weight .ensures .0), omega arith)
-
 pub adjustment-spec : {M : Type 1} → statement M
-adjustment-spec = tie.close (tie.spec (search needs) (search needs) (search needs) returns)
+unfolding adjustmentOf
+adjustment-spec =
+    tie.close (tie.spec
+    (search needs) (search needs) (search needs)
+    (λ c. (rw (c .weight2 .ensures .0, c .before .weight .ensures .0), omega arith)))

@@ -6,11 +6,9 @@ use Rattle.arith.specs.Decimal.{lowWrongOf, highWrongOf, afterAdditionOf
 use Rattle.arith.proofs.decimal.after_addition.Statement.{statement}
 use Rattle.arith.proofs.decimal.after_addition.Tie as tie
 
-returns : tie.Need-returns
-unfolding afterAdditionOf lowWrongOf highWrongOf sumOf
-returns c = simp (c .adjusted .ensures, c .before .adjustment .ensures .0, add-zero)
-
 pub after-addition-spec : {M : Type 1} → statement M
+unfolding afterAdditionOf lowWrongOf highWrongOf sumOf
 after-addition-spec =
-    tie.close
-    (tie.spec (search needs) (search needs) (search needs) (search needs) (search needs) returns)
+    tie.close (tie.spec
+    (search needs) (search needs) (search needs) (search needs) (search needs)
+    (λ c. simp (c .adjusted .ensures, c .before .adjustment .ensures .0, add-zero)))

@@ -6,11 +6,9 @@ use Rattle.arith.specs.Decimal.{afterSubtractionOf}
 use Rattle.arith.proofs.decimal.after_subtraction.Statement.{statement}
 use Rattle.arith.proofs.decimal.after_subtraction.Tie as tie
 
-returns : tie.Need-returns
-unfolding afterSubtractionOf differenceOf
-returns c = simp (c .adjusted .ensures, c .before .adjustment .ensures .0, add-zero)
-
 pub after-subtraction-spec : {M : Type 1} → statement M
+unfolding afterSubtractionOf differenceOf
 after-subtraction-spec =
-    tie.close
-    (tie.spec (search needs) (search needs) (search needs) (search needs) (search needs) (search needs) returns)
+    tie.close (tie.spec
+    (search needs) (search needs) (search needs) (search needs) (search needs) (search needs)
+    (λ c. simp (c .adjusted .ensures, c .before .adjustment .ensures .0, add-zero)))

@@ -4,9 +4,9 @@ use Rattle.arith.specs.Rotates.{rotationOf}
 use Rattle.arith.proofs.rotates.rotate.Statement.{statement}
 use Rattle.arith.proofs.rotates.rotate.Tie as tie
 
-returns : tie.Need-returns
-unfolding rotationOf
-returns c = rw (c .pack .ensures, c .before .left-over .ensures, c .before .before .rotated .ensures)
-
 pub rotate-spec : {M : Type 1} → statement M
-rotate-spec = tie.close (tie.spec (search needs) (search needs) (search needs) returns)
+unfolding rotationOf
+rotate-spec =
+    tie.close (tie.spec
+    (search needs) (search needs) (search needs)
+    (λ c. rw (c .pack .ensures, c .before .left-over .ensures, c .before .before .rotated .ensures)))

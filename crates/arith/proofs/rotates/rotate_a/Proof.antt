@@ -4,9 +4,9 @@ use Rattle.arith.specs.Rotates.{rotationAOf}
 use Rattle.arith.proofs.rotates.rotate_a.Statement.{statement}
 use Rattle.arith.proofs.rotates.rotate_a.Tie as tie
 
-returns : tie.Need-returns
-unfolding rotationAOf
-returns c = rw (c .pack .ensures, c .before .left-over .ensures, c .before .before .rotated .ensures)
-
 pub rotate-a-spec : {M : Type 1} → statement M
-rotate-a-spec = tie.close (tie.spec (search needs) (search needs) (search needs) returns)
+unfolding rotationAOf
+rotate-a-spec =
+    tie.close (tie.spec
+    (search needs) (search needs) (search needs)
+    (λ c. rw (c .pack .ensures, c .before .left-over .ensures, c .before .before .rotated .ensures)))

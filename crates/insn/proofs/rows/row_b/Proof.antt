@@ -1,14 +1,11 @@
 -- `insn::rows::row_b` meets its contract: each arm is the grid's entry, which antt computes. Assumes nothing.
 use borrow.Author.Needs.{needs}
-use Rattle.insn.specs.Grid.{grid}
-use Rattle.insn.specs.Shapes.{shapes}
-use Rattle.insn.proofs.Last.{last-of}
-use Rattle.insn.proofs.Told.{told}
+use Rattle.insn.proofs.Told.{entries, told, last-of}
 use Rattle.insn.proofs.rows.row_b.Statement.{statement}
 use Rattle.insn.proofs.rows.row_b.Tie as tie
 
 pub row-b-spec : {M : Type 1} → statement M
-unfolding grid shapes
+unfolding entries
 row-b-spec =
     tie.close (tie.spec
     (search needs) (search needs) (search needs) (search needs) (search needs) (search needs) (search needs) (search needs) (search needs) (search needs) (search needs) (search needs) (search needs) (search needs) (search needs) (search needs)

@@ -3,23 +3,17 @@
 use mathlib.Core.Path.{sym}
 use native.Mathlib.Omega.{arith}
 use borrow.Author.Needs.{needs}
-use Rattle.insn.specs.Grid.{grid}
-use Rattle.insn.specs.Shapes.{shapes}
 use Rattle.insn.specs.Table.{rows, lengthOf}
 use Rattle.insn.proofs.Entries.{tabulated}
+use Rattle.insn.proofs.Told.{entries}
 use Rattle.insn.proofs.Laws.{length-above}
 use Rattle.insn.proofs.table.length.Statement.{statement}
 use Rattle.insn.proofs.table.length.Tie as tie
 
-array-read-result : tie.Need-array-read-result
-array-read-result c = search needs
-
-returns : tie.Need-returns
-unfolding grid shapes rows
-returns c = tabulated lengthOf 0 512 (c .before .args .row) (omega arith)
-
-returns-2 : tie.Need-returns-2
-returns-2 c = sym (length-above _ (omega arith))
-
 pub length-spec : {M : Type 1} → statement M
-length-spec = tie.close (tie.spec array-read-result returns returns-2)
+unfolding entries rows
+length-spec =
+    tie.close (tie.spec
+    (search needs)
+    (λ c. tabulated lengthOf 0 512 (c .before .args .row) (omega arith))
+    (λ c. sym (length-above (c .before .args .row) (omega arith))))
