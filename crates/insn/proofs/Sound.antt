@@ -19,55 +19,55 @@ SoundOperand (Reg r) = Unit {0}
 SoundOperand AtHl = Unit {0}
 SoundOperand (Const v) = v < 256
 
-abbrev pub Sound : Insn → Type 0
-Sound Nop = Unit {0}
-Sound (StoreSp w) = w < 65536
-Sound Stop = Unit {0}
-Sound (Jr n) = n < 256
-Sound (JrIf cc n) = n < 256
-Sound (LoadPair w rp) = w < 65536
-Sound (AddHl rp) = Unit {0}
-Sound (StoreAt p) = Unit {0}
-Sound (LoadAt p) = Unit {0}
-Sound (IncPair rp) = Unit {0}
-Sound (DecPair rp) = Unit {0}
-Sound (Inc p) = Unit {0}
-Sound (Dec p) = Unit {0}
-Sound (Load p s) = SoundOperand s
-Sound (RotateA r) = Unit {0}
-Sound Daa = Unit {0}
-Sound Cpl = Unit {0}
-Sound Scf = Unit {0}
-Sound Ccf = Unit {0}
-Sound Halt = Unit {0}
-Sound (Math a o) = SoundOperand o
-Sound (RetIf cc) = Unit {0}
-Sound (StoreHigh n) = n < 256
-Sound (AddSp n) = n < 256
-Sound (LoadHigh n) = n < 256
-Sound (LoadHlSp n) = n < 256
-Sound (Pop rp) = Unit {0}
-Sound Ret = Unit {0}
-Sound Reti = Unit {0}
-Sound JumpHl = Unit {0}
-Sound LoadSpHl = Unit {0}
-Sound (JumpIf cc w) = w < 65536
-Sound StoreHighC = Unit {0}
-Sound (StoreTo w) = w < 65536
-Sound LoadHighC = Unit {0}
-Sound (LoadFrom w) = w < 65536
-Sound (Jump w) = w < 65536
-Sound (Rotate r p) = Unit {0}
-Sound (Bit k p) = k < 8
-Sound (Res k p) = k < 8
-Sound (Set k p) = k < 8
-Sound Di = Unit {0}
-Sound Ei = Unit {0}
-Sound (CallIf cc w) = w < 65536
-Sound (Push rp) = Unit {0}
-Sound (Call w) = w < 65536
-Sound (Rst n) = n < 256
-Sound Undefined = Unit {0}
+abbrev pub SoundInsn : Insn → Type 0
+SoundInsn Nop = Unit {0}
+SoundInsn (StoreSp w) = w < 65536
+SoundInsn Stop = Unit {0}
+SoundInsn (Jr n) = n < 256
+SoundInsn (JrIf cc n) = n < 256
+SoundInsn (LoadPair w rp) = w < 65536
+SoundInsn (AddHl rp) = Unit {0}
+SoundInsn (StoreAt p) = Unit {0}
+SoundInsn (LoadAt p) = Unit {0}
+SoundInsn (IncPair rp) = Unit {0}
+SoundInsn (DecPair rp) = Unit {0}
+SoundInsn (Inc p) = Unit {0}
+SoundInsn (Dec p) = Unit {0}
+SoundInsn (Load p s) = SoundOperand s
+SoundInsn (RotateA r) = Unit {0}
+SoundInsn Daa = Unit {0}
+SoundInsn Cpl = Unit {0}
+SoundInsn Scf = Unit {0}
+SoundInsn Ccf = Unit {0}
+SoundInsn Halt = Unit {0}
+SoundInsn (Math a o) = SoundOperand o
+SoundInsn (RetIf cc) = Unit {0}
+SoundInsn (StoreHigh n) = n < 256
+SoundInsn (AddSp n) = n < 256
+SoundInsn (LoadHigh n) = n < 256
+SoundInsn (LoadHlSp n) = n < 256
+SoundInsn (Pop rp) = Unit {0}
+SoundInsn Ret = Unit {0}
+SoundInsn Reti = Unit {0}
+SoundInsn JumpHl = Unit {0}
+SoundInsn LoadSpHl = Unit {0}
+SoundInsn (JumpIf cc w) = w < 65536
+SoundInsn StoreHighC = Unit {0}
+SoundInsn (StoreTo w) = w < 65536
+SoundInsn LoadHighC = Unit {0}
+SoundInsn (LoadFrom w) = w < 65536
+SoundInsn (Jump w) = w < 65536
+SoundInsn (Rotate r p) = Unit {0}
+SoundInsn (Bit k p) = k < 8
+SoundInsn (Res k p) = k < 8
+SoundInsn (Set k p) = k < 8
+SoundInsn Di = Unit {0}
+SoundInsn Ei = Unit {0}
+SoundInsn (CallIf cc w) = w < 65536
+SoundInsn (Push rp) = Unit {0}
+SoundInsn (Call w) = w < 65536
+SoundInsn (Rst n) = n < 256
+SoundInsn Undefined = Unit {0}
 
 -- what holds of each of a list, and of what stands past its end, holds of the k-th
 abbrev Each : {A : Type 0} → (A → Type 0) → List A → Type 0
@@ -84,9 +84,9 @@ each P [] d h e k = h
 each P (x ∷ xs) d h e zero = e .0
 each P (x ∷ xs) d h e (suc k) = each P xs d h (e .1) k
 
-nth-sound : (line : List Insn) → Each Sound line → (k : ℕ) → Sound (nth k line)
+nth-sound : (line : List Insn) → Each SoundInsn line → (k : ℕ) → SoundInsn (nth k line)
 unfolding nth
-nth-sound line e k = each Sound line Undefined tt e k
+nth-sound line e k = each SoundInsn line Undefined tt e k
 
 -- a place carries no constant
 pub place-sound : (p : Place) → SoundOperand (operandOf p)
@@ -100,16 +100,16 @@ place-sound place.L = tt
 place-sound place.AtHl = tt
 place-sound place.A = tt
 
-prefixed-at : (x y z : ℕ) → y < 8 → Sound (prefixedAt x y z)
+prefixed-at : (x y z : ℕ) → y < 8 → SoundInsn (prefixedAt x y z)
 unfolding prefixedAt
 prefixed-at x y z h = nth-sound _ (tt ▸ h ▸ h ▸ h ▸ tt) x
 
-pub prefixed-sound : (n : ℕ) → Sound (prefixedOf n)
+pub prefixed-sound : (n : ℕ) → SoundInsn (prefixedOf n)
 unfolding prefixedOf
 prefixed-sound n = prefixed-at (n / 64) (n / 8 % 8) (n % 8) (omega arith)
 
 module _ (y z p q n w : ℕ) (small : y < 8) (byte : n < 256) (word : w < 65536) where
-  x0-sound : Sound (x0Of y z p q n w)
+  x0-sound : SoundInsn (x0Of y z p q n w)
   unfolding x0Of
   x0-sound =
       nth-sound _
@@ -124,7 +124,7 @@ module _ (y z p q n w : ℕ) (small : y < 8) (byte : n < 256) (word : w < 65536)
       ▸ tt)
       z
 
-  x3-sound : Sound (x3Of y z p q n w)
+  x3-sound : SoundInsn (x3Of y z p q n w)
   unfolding x3Of
   x3-sound =
       nth-sound _
@@ -139,19 +139,19 @@ module _ (y z p q n w : ℕ) (small : y < 8) (byte : n < 256) (word : w < 65536)
       ▸ tt)
       z
 
-x1-sound : (op y z : ℕ) → Sound (x1Of op y z)
+x1-sound : (op y z : ℕ) → SoundInsn (x1Of op y z)
 unfolding x1Of haltOr
 x1-sound op y z = go (eqb op 0x76)
   where
-    go : (b : Bool) → Sound (haltOr b (Load (rAt y) (operandOf (rAt z))))
+    go : (b : Bool) → SoundInsn (haltOr b (Load (rAt y) (operandOf (rAt z))))
     go true = tt
     go false = place-sound (rAt z)
 
-x2-sound : (y z : ℕ) → Sound (x2Of y z)
+x2-sound : (y z : ℕ) → SoundInsn (x2Of y z)
 unfolding x2Of
 x2-sound y z = place-sound (rAt z)
 
-pub decode-sound : (op n w : ℕ) → n < 256 → w < 65536 → Sound (decodeOf op n w)
+pub decode-sound : (op n w : ℕ) → n < 256 → w < 65536 → SoundInsn (decodeOf op n w)
 unfolding decodeOf gridOf
 decode-sound op n w byte word =
     nth-sound _

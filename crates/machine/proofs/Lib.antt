@@ -13,5 +13,4 @@ pub mod Arming
 pub mod Runs
 pub mod Stages
 pub mod Fetch
-pub mod Turns
 pub mod Unique

@@ -14,7 +14,7 @@ use Rattle.arith.specs.Refusals.{codeOf, unlessRefused, order}
 use Rattle.arith.proofs.Refusals.{by-code}
 use Rattle.machine.specs.Answers.{With}
 use Rattle.machine.specs.Memory.{Memory, memorySize}
-use Rattle.machine.specs.Step.{stepOf}
+use Rattle.machine.specs.Step.{dueStep, stepOf}
 use Rattle.machine.specs.Run.{largestBudget, ending, whileBelow, afterStep, runFrom, runRefusals, runOf, runs}
 use Rattle.machine.specs.declared.Cpu.{Cpu}
 use Rattle.machine.specs.declared.Ran.{Ran}
@@ -108,6 +108,24 @@ fuel (suc t) (suc t′) b spent steps s m p q =
 
 pub fuel-enough : (b n : ℕ) (s : Cpu) (m : Memory) → runFrom b b 0 0 s m ≡ runFrom (b + n) b 0 0 s m
 fuel-enough b n s m = fuel b (b + n) b 0 0 s m (omega arith) (omega arith)
+
+-- the turns of a run as the code takes them: the number of turns left is the budget throughout, which is always enough
+
+module _ (b spent steps : ℕ) (s : Cpu) (m : Memory) (long : length m ≡ memorySize) (low : s .f % 16 ≡ 0) where
+  pub turn-taken : spent < b → dueStep s m .out .code ≡ 0
+      → runFrom b b spent steps s m ≡ runFrom b b (spent + dueStep s m .out .cycles) (steps + 1) (dueStep s m .out .cpu) (dueStep s m .mem)
+  turn-taken p e =
+      fuel b (suc b) b spent steps s m (omega arith) (omega arith) ∙ run-goes b spent steps s m b p (rw (step-due s m long low) e)
+      ∙ rw (step-due s m long low)
+
+  refused-at : (n : ℕ) → dueStep s m .out .code ≡ n → n ≢ 0 → spent < b → runFrom b b spent steps s m ≡ ending n spent steps s m
+  refused-at zero e ne p = absurd (ne refl)
+  refused-at (suc n) e ne p =
+      fuel b (suc b) b spent steps s m (omega arith) (omega arith)
+      ∙ run-refused b spent steps s m b n p (rw (step-due s m long low) e)
+
+  pub turn-refused : spent < b → dueStep s m .out .code ≢ 0 → runFrom b b spent steps s m ≡ ending (dueStep s m .out .code) spent steps s m
+  turn-refused p ne = refused-at (dueStep s m .out .code) refl ne p
 
 -- counts: a run that ends with 0 has spent its budget and at most 5 more, and each step has spent at least one cycle
 

@@ -15,7 +15,7 @@ use Rattle.arith.specs.Words.{further}
 use Rattle.arith.specs.declared.Alu.the-variants.{And}
 use Rattle.arith.proofs.Laws.{flags-low, c-back}
 use Rattle.machine.specs.State.{cpuOf}
-use Rattle.machine.specs.Memory.{Memory, byteAt, wordAt}
+use Rattle.machine.specs.Memory.{memorySize, Memory, byteAt, wordAt}
 use Rattle.machine.specs.Run.{ending, runOf}
 use Rattle.machine.specs.declared.Cpu.{Cpu}
 use Rattle.routines.specs.Decimals.{num}
@@ -75,7 +75,7 @@ module _ {r : ℕ} {s : Cpu} {m : Memory} {dst src : ℕ} (g : Given addingRouti
       (running (s .a) (s .f) (s .b) (s .c) (s .d) (s .e) (s .h) (s .l) (s .sp) (s .pc)) m ended (looped .mem)
   unfolding f₀ ended
   steps =
-      let size : length (looped .mem) ≡ 65536 = looped .sum .filled .size ∙ g .memory in
+      let size : length (looped .mem) ≡ memorySize = looped .sum .filled .size ∙ g .memory in
       recount
       (and-a (g .memory) (g .f) (next _ (s .pc + 1) (omega arith)) (rw add-zero at (g .pc 0 (lit< tt)))
       then looped .ran

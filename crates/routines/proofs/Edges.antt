@@ -11,7 +11,7 @@ use lib.ListN.{length, getD, length-replicate, getD-replicate}
 use Rattle.arith.specs.Width.{sumOf}
 use Rattle.arith.specs.Words.{further}
 use Rattle.arith.proofs.Laws.{word-back}
-use Rattle.machine.specs.Memory.{Memory, byteAt}
+use Rattle.machine.specs.Memory.{memorySize, Memory, byteAt}
 use Rattle.machine.specs.Interrupts.{pendingOf}
 use Rattle.machine.proofs.ReadOverWrite.{stored-length, stored-same, stored-other}
 use Rattle.routines.specs.Decimals.{Decimal, Digits}
@@ -44,7 +44,7 @@ written-else m at (b ∷ bs) x h =
     stored-other (written m (at + 1) bs) at b x (omega (arith, h 0 (omega arith)))
     ∙ written-else m (at + 1) bs x (λ j l. omega (arith, h (suc j) (omega arith)))
 
-all-length : (v : ℕ) → length (allOf v) ≡ 65536
+all-length : (v : ℕ) → length (allOf v) ≡ memorySize
 unfolding allOf
 all-length v = length-replicate 65536 v
 
@@ -80,7 +80,7 @@ module _ (x : Edge) (r : Room x) where
   unfolding edgeMemory
   code-at i h = written-here (allOf (x .v)) (x .pc) addingRoutine (omega (arith, all-length (x .v))) i h
 
-  size : length (edgeMemory (x .v) (x .pc)) ≡ 65536
+  size : length (edgeMemory (x .v) (x .pc)) ≡ memorySize
   unfolding edgeMemory
   size = written-length (allOf (x .v)) (x .pc) addingRoutine ∙ all-length (x .v)
 

@@ -12,7 +12,7 @@ use lib.Seq.{getD-append-add}
 use Rattle.arith.specs.Width.{sumOf}
 use Rattle.arith.specs.Words.{wordOf, highOf, lowOf, further}
 use Rattle.machine.specs.State.{cpuOf}
-use Rattle.machine.specs.Memory.{Memory, byteAt, wordAt}
+use Rattle.machine.specs.Memory.{memorySize, Memory, byteAt, wordAt}
 use Rattle.machine.specs.Run.{ending}
 use Rattle.machine.specs.declared.Cpu.{Cpu}
 use Rattle.routines.specs.Decimals.{Decimal, worth, num}
@@ -46,7 +46,7 @@ above at [] o k = o
 above at (p ∷ ps) o zero = o .0
 above at (p ∷ ps) o (suc k) = omega (arith, o .0, above _ ps (o .1) k)
 
-laid-length : (at : ℕ) (ps : List Piece) → InOrder at ps → length (laid at ps) + at ≡ 65536
+laid-length : (at : ℕ) (ps : List Piece) → InOrder at ps → length (laid at ps) + at ≡ memorySize
 unfolding laid
 laid-length at [] o = rw zeros-length (omega arith)
 laid-length at (p ∷ ps) o =
@@ -80,7 +80,7 @@ pieces =
 in-order : InOrder 0 pieces
 in-order = omega arith
 
-worked-length : length workedMemory ≡ 65536
+worked-length : length workedMemory ≡ memorySize
 unfolding workedMemory
 worked-length = omega (arith, laid-length 0 pieces in-order)
 

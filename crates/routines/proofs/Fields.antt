@@ -9,7 +9,7 @@ use native.Mathlib.Nat.{add-zero, pow-succ'}
 use native.Mathlib.Omega.{arith}
 use lib.Dec.{lit<}
 use lib.ListN.{length, getD}
-use Rattle.machine.specs.Memory.{Memory, byteAt, stored}
+use Rattle.machine.specs.Memory.{memorySize, Memory, byteAt, stored}
 use Rattle.machine.specs.declared.Cpu.{Cpu}
 use Rattle.machine.proofs.ReadOverWrite.{stored-length, stored-same, stored-other}
 use Rattle.routines.specs.Decimals.{Decimal, worth, Digits, num}
@@ -50,7 +50,7 @@ num-below m at (suc n) d =
 
 -- the routine at p, and n bytes of the two fields still to be done
 pub record Standing (routine : List ℕ) (p n : ℕ) (m : Memory) (dst src : ℕ) : Type 0 where
-  pub size : length m ≡ 65536
+  pub size : length m ≡ memorySize
   pub code : (i : ℕ) → i < length routine → byteAt m (p + i) ≡ getD routine i 0
   pub dst-fits : dst + n ≤ 65536
   pub src-fits : src + n ≤ 65536

@@ -17,7 +17,7 @@ use Rattle.arith.specs.declared.Alu.the-variants.{Adc, And}
 use Rattle.insn.specs.Grid.{grid}
 use Rattle.insn.specs.Shapes.{isUndefined, shapes}
 use Rattle.machine.specs.State.{cpuOf}
-use Rattle.machine.specs.Memory.{Memory, byteAt, stored, wordAt}
+use Rattle.machine.specs.Memory.{memorySize, Memory, byteAt, stored, wordAt}
 use Rattle.machine.specs.Execute.{acts}
 use Rattle.machine.specs.Modes.{isOn}
 use Rattle.machine.specs.Interrupts.{dispatchDueOf}
@@ -35,7 +35,7 @@ further-none : (w : ℕ) → further 0 (further 1 w) ≡ further 1 w
 unfolding further sumOf
 further-none w = omega arith
 
-module _ {m : Memory} {a f b c d e h l sp pc : ℕ} (size : length m ≡ 65536) (valid : f % 16 ≡ 0) where
+module _ {m : Memory} {a f b c d e h l sp pc : ℕ} (size : length m ≡ memorySize) (valid : f % 16 ≡ 0) where
   -- neither refused nor interrupted: the instruction at PC is run
   insn : {j : ℕ} {s′ : Cpu} {m′ : Memory} →
       (let s = running a f b c d e h l sp pc in

@@ -10,9 +10,9 @@ use borrow.Author.Tests.{lt-ltb, le-ltb}
 use lib.ListN.{length}
 use Rattle.arith.specs.Refusals.{unlessRefused, order}
 use Rattle.machine.specs.Answers.{With}
-use Rattle.machine.specs.Memory.{Memory}
+use Rattle.machine.specs.Memory.{memorySize, Memory}
 use Rattle.machine.specs.Step.{stepped, stepOf}
-use Rattle.machine.specs.Run.{ending, whileBelow, afterStep, runFrom, runOf, runs}
+use Rattle.machine.specs.Run.{largestBudget, ending, whileBelow, afterStep, runFrom, runOf, runs}
 use Rattle.machine.specs.declared.Cpu.{Cpu}
 use Rattle.machine.specs.declared.Ran.{Ran}
 use Rattle.machine.specs.declared.Stepped.{Stepped}
@@ -68,7 +68,7 @@ module _ {b : ℕ} {s′ : Cpu} {m′ : Memory} where
       (run-from k turns _ (steps + 1) _ _ (omega arith) (rw (first-then k t s m (p .0)) at e))
 
 -- a run that is given what k accepted steps spend takes those steps
-pub run-steps : (k b : ℕ) (s : Cpu) (m : Memory) {s′ : Cpu} {m′ : Memory} → length m ≡ 65536 → s .f % 16 ≡ 0
-    → b ≤ 1048576 → k ≤ b → afterSteps k s m ≡ stepped 0 b s′ m′ → runOf b s m ≡ ending 0 b k s′ m′
+pub run-steps : (k b : ℕ) (s : Cpu) (m : Memory) {s′ : Cpu} {m′ : Memory} → length m ≡ memorySize → s .f % 16 ≡ 0
+    → b ≤ largestBudget → k ≤ b → afterSteps k s m ≡ stepped 0 b s′ m′ → runOf b s m ≡ ending 0 b k s′ m′
 unfolding order runs afterSteps
-run-steps k b s m size low most h e = rw (size, low, le-ltb 1048576 b most) (run-from k b 0 0 s m h e ∙ rw zero-add)
+run-steps k b s m size low most h e = rw (size, low, le-ltb largestBudget b most) (run-from k b 0 0 s m h e ∙ rw zero-add)

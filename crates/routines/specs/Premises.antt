@@ -9,7 +9,7 @@ use mathlib.Core.Logic.{_⊎_, _≢_}
 use mathlib.Core.Path.{_≡_}
 use lib.ListN.{length, getD}
 use Rattle.arith.specs.Words.{wordOf, further}
-use Rattle.machine.specs.Memory.{Memory, byteAt}
+use Rattle.machine.specs.Memory.{memorySize, Memory, byteAt}
 use Rattle.machine.specs.declared.Ime.the-variants.{Off}
 use Rattle.machine.specs.declared.Mode.the-variants.{Running}
 use Rattle.machine.specs.declared.Cpu.{Cpu}
@@ -27,7 +27,7 @@ pub record Given (routine : List ℕ) (n : ℕ) (s : Cpu) (m : Memory) (dst src 
   -- numbers of 1 to 256 bytes; the memory is 65,536 bytes
   pub n-least : 1 ≤ n
   pub n-most : n ≤ 256
-  pub memory : length m ≡ 65536
+  pub memory : length m ≡ memorySize
   -- HL the destination, DE the source, B = n mod 256
   pub hl : wordOf (s .h) (s .l) ≡ dst
   pub de : wordOf (s .d) (s .e) ≡ src

@@ -11,8 +11,8 @@ use denote.Ref.{now}
 use native.Mathlib.Omega.{arith}
 use lib.ListN.{length}
 use Rattle.machine.specs.Answers.{With, Gives}
-use Rattle.machine.specs.Memory.{Memory}
-use Rattle.machine.specs.Run.{runOf}
+use Rattle.machine.specs.Memory.{memorySize, Memory}
+use Rattle.machine.specs.Run.{largestBudget, runOf}
 use Rattle.machine.specs.declared.Cpu.{Cpu}
 use Rattle.machine.specs.declared.Ran.{Ran}
 use Rattle.machine.proofs.run.run.Kinds as kinds
@@ -30,7 +30,7 @@ outcome g = λ i. record { out = sym (g .answers) i; mem = sym (g .leaves) i }
 
 -- of what is stated by `Gives`
 pub stepwise-given : {b : ℕ} {s : Cpu} {m : Memory} {r : Ran} {left : Memory} → Gives (runOf b s m) r left
-    → length m ≡ 65536 → s .f % 16 ≡ 0 → b ≤ 1048576 → Stepwise b s m (record { out = r; mem = left })
+    → length m ≡ memorySize → s .f % 16 ≡ 0 → b ≤ largestBudget → Stepwise b s m (record { out = r; mem = left })
 stepwise-given {b} {s} {m} g l f p = rw (outcome g) at (run-stepwise b s m l f p)
 
 pub added-given : {n b : ℕ} {s : Cpu} {m : Memory} {dst src : ℕ} {r : Ran} {left : Memory} → Gives (runOf b s m) r left
@@ -53,7 +53,7 @@ added-given {n} {b} {s} {m} {r = r} g e h =
 -- of the promise itself: a is the state, the memory and the budget, r the answer, e the parameters at exit
 module _ (κs : Lfts 1) (a : Dens κs kinds.ps) (r : resT kinds.r κs .Denot) (e : AtExit (endedOf 1 kinds.ps kinds.r) κs)
     (promise : reads.Post κs a r e) where
-  pub run-is-its-steps : length (now (a .1 .0)) ≡ 65536 → a .0 .f % 16 ≡ 0 → a .1 .1 .0 ≤ 1048576
+  pub run-is-its-steps : length (now (a .1 .0)) ≡ memorySize → a .0 .f % 16 ≡ 0 → a .1 .1 .0 ≤ largestBudget
       → Stepwise (a .1 .1 .0) (a .0) (now (a .1 .0)) (record { out = r; mem = now (e .1 .0) })
   run-is-its-steps = stepwise-given promise
 

@@ -10,9 +10,9 @@ use borrow.Author.Tests.{ltb-true, ltb-false, eqb-true, eqb-false, leb-true, leb
 use lib.Dec.{eqb, leb, ltb}
 use lib.ListN.{length}
 use Rattle.machine.specs.Answers.{With}
-use Rattle.machine.specs.Memory.{Memory}
+use Rattle.machine.specs.Memory.{memorySize, Memory}
 use Rattle.machine.specs.Step.{stepped, stepOf}
-use Rattle.machine.specs.Run.{ending, runFrom, runOf}
+use Rattle.machine.specs.Run.{largestBudget, ending, runFrom, runOf}
 use Rattle.machine.specs.declared.Cpu.{Cpu}
 use Rattle.machine.specs.declared.Ran.{Ran}
 use Rattle.machine.specs.declared.Stepped.{Stepped}
@@ -174,7 +174,7 @@ module _ (b : ℕ) (s : Cpu) (m : Memory) (w : With Ran) (g : Onward b 0 0 s m w
       }
 
 -- A RUN IS ITS STEPS
-pub run-stepwise : (b : ℕ) (s : Cpu) (m : Memory) → length m ≡ 65536 → s .f % 16 ≡ 0 → b ≤ 1048576
+pub run-stepwise : (b : ℕ) (s : Cpu) (m : Memory) → length m ≡ memorySize → s .f % 16 ≡ 0 → b ≤ largestBudget
     → Stepwise b s m (runOf b s m)
 run-stepwise b s m l f p =
     let w = runFrom b b 0 0 s m in
@@ -183,7 +183,7 @@ run-stepwise b s m l f p =
 
 -- 3 and 4 leave what was spent below the budget, whatever was given
 below-at : (b : ℕ) (s : Cpu) (m : Memory) (l f p : Bool)
-    → eqb (length m) 65536 ≡ l → eqb (s .f % 16) 0 ≡ f → leb b 1048576 ≡ p
+    → eqb (length m) memorySize ≡ l → eqb (s .f % 16) 0 ≡ f → leb b largestBudget ≡ p
     → 3 ≤ runOf b s m .out .code → runOf b s m .out .code ≤ 4 → runOf b s m .out .spent < b
 below-at b s m true true true l f p x y =
     run-stepwise b s m (eqb-true _ _ l) (eqb-true _ _ f) (leb-true _ _ p) .below (omega arith)

@@ -1,6 +1,5 @@
 -- `call` meets its contract.
-use borrow.Author.Needs.{needs}
-use Rattle.machine.proofs.Gives.{exactly}
+use Rattle.machine.proofs.Gives.{exactly, needs}
 use Rattle.machine.specs.Stack.{calledOf}
 use Rattle.machine.proofs.Cpu.call.Statement.{statement}
 use Rattle.machine.proofs.Cpu.call.Tie as tie

@@ -1,6 +1,5 @@
 -- `call_if` meets its contract.
-use borrow.Author.Needs.{needs}
-use Rattle.machine.proofs.Gives.{exactly}
+use Rattle.machine.proofs.Gives.{exactly, needs}
 use Rattle.machine.specs.Execute.{takenIf, storesIf}
 use Rattle.machine.proofs.Cpu.call_if.Statement.{statement}
 use Rattle.machine.proofs.Cpu.call_if.Tie as tie

@@ -1,6 +1,5 @@
 -- `decrease` meets its contract.
-use borrow.Author.Needs.{needs}
-use Rattle.machine.proofs.Gives.{exactly}
+use Rattle.machine.proofs.Gives.{exactly, needs}
 use Rattle.machine.proofs.Cpu.decrease.Statement.{statement}
 use Rattle.machine.proofs.Cpu.decrease.Tie as tie
 

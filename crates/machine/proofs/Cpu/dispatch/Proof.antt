@@ -1,6 +1,5 @@
 -- `dispatch` meets its contract.
-use borrow.Author.Needs.{needs}
-use Rattle.machine.proofs.Gives.{exactly}
+use Rattle.machine.proofs.Gives.{exactly, needs}
 use Rattle.machine.specs.Interrupts.{dispatchOf}
 use Rattle.machine.proofs.Cpu.dispatch.Statement.{statement}
 use Rattle.machine.proofs.Cpu.dispatch.Tie as tie

@@ -2,13 +2,12 @@
 use mathlib.Core.Bool.{true, false, _&&_}
 use mathlib.Core.Logic.{⊎-elim}
 use mathlib.Core.Path.{_≡_, sym, _∙_}
-use borrow.Author.Needs.{needs}
 use borrow.Author.Tests.{not-false}
 use lib.Dec.{eqb}
 use Rattle.machine.specs.Interrupts.{pendingOf, dispatchDueOf}
 use Rattle.machine.specs.Modes.{settledIme, isHalted, isStopped}
 use Rattle.machine.specs.Step.{nextRest, instructionStep, dueStep}
-use Rattle.machine.proofs.Gives.{exactly}
+use Rattle.machine.proofs.Gives.{exactly, needs}
 use Rattle.machine.proofs.Stages.{stage-stopped, stage-dispatch, stage-idle, stage-insn, quiet-rest, stage-quiet}
 use Rattle.machine.proofs.Cpu.due_step.Statement.{statement}
 use Rattle.machine.proofs.Cpu.due_step.Tie as tie

@@ -1,7 +1,6 @@
 -- `execute` meets its contract.
-use borrow.Author.Needs.{needs}
 use Rattle.insn.specs.Shapes.{shapeOf}
-use Rattle.machine.proofs.Gives.{exactly}
+use Rattle.machine.proofs.Gives.{exactly, needs}
 use Rattle.machine.specs.Execute.{execOf}
 use Rattle.machine.proofs.Cpu.execute.Statement.{statement}
 use Rattle.machine.proofs.Cpu.execute.Tie as tie

@@ -1,6 +1,5 @@
 -- `increase` meets its contract.
-use borrow.Author.Needs.{needs}
-use Rattle.machine.proofs.Gives.{exactly}
+use Rattle.machine.proofs.Gives.{exactly, needs}
 use Rattle.machine.proofs.Cpu.increase.Statement.{statement}
 use Rattle.machine.proofs.Cpu.increase.Tie as tie
 

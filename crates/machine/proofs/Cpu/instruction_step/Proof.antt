@@ -1,6 +1,5 @@
 -- `instruction` meets its contract: what was fetched is the instruction at PC, and it is refused or run.
 use mathlib.Core.Path.{_≡_, _∙_, ap}
-use borrow.Author.Needs.{needs}
 use native.Mathlib.Omega.{arith}
 use Rattle.arith.specs.Words.{further}
 use Rattle.insn.specs.Shapes.{decodedOf}
@@ -10,7 +9,7 @@ use Rattle.machine.specs.Step.{nextRest, endOf}
 use Rattle.machine.specs.declared.Done.{Done}
 use Rattle.machine.proofs.Costs.{insn-most}
 use Rattle.machine.proofs.Fetch.{undefined-here, runs-here, cycles-told}
-use Rattle.machine.proofs.Gives.{exactly}
+use Rattle.machine.proofs.Gives.{exactly, needs}
 use Rattle.machine.proofs.Cpu.instruction_step.Statement.{statement}
 use Rattle.machine.proofs.Cpu.instruction_step.Tie as tie
 

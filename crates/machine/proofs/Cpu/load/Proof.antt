@@ -1,6 +1,5 @@
 -- `load` meets its contract.
-use borrow.Author.Needs.{needs}
-use Rattle.machine.proofs.Gives.{exactly}
+use Rattle.machine.proofs.Gives.{exactly, needs}
 use Rattle.machine.proofs.Cpu.load.Statement.{statement}
 use Rattle.machine.proofs.Cpu.load.Tie as tie
 

@@ -1,6 +1,5 @@
 -- `place` meets its contract.
-use borrow.Author.Needs.{needs}
-use Rattle.machine.proofs.Gives.{exactly}
+use Rattle.machine.proofs.Gives.{exactly, needs}
 use Rattle.machine.specs.Operands.{placedOf}
 use Rattle.machine.proofs.Cpu.place.Statement.{statement}
 use Rattle.machine.proofs.Cpu.place.Tie as tie

@@ -1,6 +1,5 @@
 -- `push` meets its contract.
-use borrow.Author.Needs.{needs}
-use Rattle.machine.proofs.Gives.{exactly}
+use Rattle.machine.proofs.Gives.{exactly, needs}
 use Rattle.machine.specs.Stack.{pushedOf}
 use Rattle.machine.proofs.Cpu.push.Statement.{statement}
 use Rattle.machine.proofs.Cpu.push.Tie as tie

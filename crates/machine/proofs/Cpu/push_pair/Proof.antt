@@ -1,6 +1,5 @@
 -- `push_pair` meets its contract.
-use borrow.Author.Needs.{needs}
-use Rattle.machine.proofs.Gives.{exactly}
+use Rattle.machine.proofs.Gives.{exactly, needs}
 use Rattle.machine.proofs.Cpu.push_pair.Statement.{statement}
 use Rattle.machine.proofs.Cpu.push_pair.Tie as tie
 

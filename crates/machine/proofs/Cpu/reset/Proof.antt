@@ -1,6 +1,5 @@
 -- `reset` meets its contract.
-use borrow.Author.Needs.{needs}
-use Rattle.machine.proofs.Gives.{exactly}
+use Rattle.machine.proofs.Gives.{exactly, needs}
 use Rattle.machine.proofs.Cpu.reset.Statement.{statement}
 use Rattle.machine.proofs.Cpu.reset.Tie as tie
 

@@ -1,6 +1,5 @@
 -- `rotate` meets its contract.
-use borrow.Author.Needs.{needs}
-use Rattle.machine.proofs.Gives.{exactly}
+use Rattle.machine.proofs.Gives.{exactly, needs}
 use Rattle.machine.proofs.Cpu.rotate.Statement.{statement}
 use Rattle.machine.proofs.Cpu.rotate.Tie as tie
 

@@ -1,6 +1,5 @@
 -- `set` meets its contract.
-use borrow.Author.Needs.{needs}
-use Rattle.machine.proofs.Gives.{exactly}
+use Rattle.machine.proofs.Gives.{exactly, needs}
 use Rattle.machine.proofs.Cpu.set.Statement.{statement}
 use Rattle.machine.proofs.Cpu.set.Tie as tie
 

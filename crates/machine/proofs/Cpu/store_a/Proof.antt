@@ -1,6 +1,5 @@
 -- `store_a` meets its contract.
-use borrow.Author.Needs.{needs}
-use Rattle.machine.proofs.Gives.{exactly}
+use Rattle.machine.proofs.Gives.{exactly, needs}
 use Rattle.machine.specs.Execute.{storedTo}
 use Rattle.machine.proofs.Cpu.store_a.Statement.{statement}
 use Rattle.machine.proofs.Cpu.store_a.Tie as tie

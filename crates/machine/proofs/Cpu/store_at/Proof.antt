@@ -1,6 +1,5 @@
 -- `store_at` meets its contract.
-use borrow.Author.Needs.{needs}
-use Rattle.machine.proofs.Gives.{exactly}
+use Rattle.machine.proofs.Gives.{exactly, needs}
 use Rattle.machine.specs.Execute.{storedAtOf}
 use Rattle.machine.proofs.Cpu.store_at.Statement.{statement}
 use Rattle.machine.proofs.Cpu.store_at.Tie as tie

@@ -1,6 +1,5 @@
 -- `update` meets its contract.
-use borrow.Author.Needs.{needs}
-use Rattle.machine.proofs.Gives.{exactly}
+use Rattle.machine.proofs.Gives.{exactly, needs}
 use Rattle.machine.specs.Operands.{updatedOf}
 use Rattle.machine.proofs.Cpu.update.Statement.{statement}
 use Rattle.machine.proofs.Cpu.update.Tie as tie

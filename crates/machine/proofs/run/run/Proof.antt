@@ -1,7 +1,6 @@
 -- `run` meets its contract: a budget that is allowed, or refusals 1, 2 and 5 in their order.
-use borrow.Author.Needs.{needs}
 use native.Mathlib.Omega.{arith}
-use Rattle.machine.proofs.Gives.{exactly}
+use Rattle.machine.proofs.Gives.{exactly, needs}
 use Rattle.machine.proofs.Runs.{run-unfit, run-flags, run-budget}
 use Rattle.machine.proofs.run.run.Statement.{statement}
 use Rattle.machine.proofs.run.run.Tie as tie

@@ -3,7 +3,6 @@
 use Prim.Native.Nat.{_+_, _-_, _%_, _≤_, _<_}
 use mathlib.Core.Logic.{_≢_}
 use mathlib.Core.Path.{_≡_, refl, sym, _∙_, ap}
-use borrow.Author.Needs.{needs}
 use native.Mathlib.Omega.{arith}
 use lib.ListN.{length}
 use Rattle.machine.specs.Memory.{memorySize}
@@ -12,11 +11,10 @@ use Rattle.machine.specs.Step.{dueStep}
 use Rattle.machine.specs.declared.Cpu.{Cpu}
 use Rattle.machine.specs.declared.Stepped.{Stepped}
 use Rattle.machine.proofs.Costs.{due-paid}
-use Rattle.machine.proofs.Gives.{exactly}
+use Rattle.machine.proofs.Gives.{exactly, needs}
 use Rattle.machine.proofs.Keeps.{due-low}
 use Rattle.machine.proofs.Refused.{due-unmoved}
-use Rattle.machine.proofs.Runs.{run-unfit, run-flags, run-valid}
-use Rattle.machine.proofs.Turns.{turn-taken, turn-refused, turns-over}
+use Rattle.machine.proofs.Runs.{run-unfit, run-flags, run-valid, run-over, turn-taken, turn-refused}
 use Rattle.machine.proofs.run.run_within.Statement.{statement}
 use Rattle.machine.proofs.run.run_within.Tie as tie
 
@@ -129,7 +127,7 @@ returns-4 c =
     let a = l .before .before .before .before .before .args in
     rw (
       ← (l .loop .inv .4),
-      turns-over (a .budget) (l .loop .spent) (l .loop .steps) (l .loop .cpu) (l .loop .mem) (c .loop-test .left),
+      run-over (a .budget) (l .loop .spent) (l .loop .steps) (l .loop .cpu) (l .loop .mem) (a .budget) (c .loop-test .left),
     )
     exactly
 

@@ -1,12 +1,11 @@
 -- `step` meets its contract: it is the run of budget 1.
 use Prim.Native.Nat.{_<_}
 use mathlib.Core.Path.{_≡_}
-use borrow.Author.Needs.{needs}
 use native.Mathlib.Nat.{mod-eq-of-lt}
 use native.Mathlib.Omega.{arith}
 use Rattle.machine.specs.Step.{stepOf}
 use Rattle.machine.proofs.Costs.{step-paid}
-use Rattle.machine.proofs.Gives.{exactly}
+use Rattle.machine.proofs.Gives.{exactly, needs}
 use Rattle.machine.proofs.Runs.{step-is-run}
 use Rattle.machine.proofs.run.step.Statement.{statement}
 use Rattle.machine.proofs.run.step.Tie as tie
