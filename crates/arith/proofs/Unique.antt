@@ -18,7 +18,7 @@ use Rattle.arith.proofs.rotates.rotate_a.Reads as rotate-a
 use Rattle.arith.proofs.words.word.Reads as word
 use Rattle.arith.proofs.words.high.Reads as high
 use Rattle.arith.proofs.words.low.Reads as low
-use Rattle.arith.proofs.words.further.Reads as on
+use Rattle.arith.proofs.words.further.Reads as further
 use Rattle.arith.proofs.words.back.Reads as back
 use Rattle.arith.proofs.words.offset.Reads as offset
 use Rattle.arith.proofs.words.add_hl.Reads as add-hl
@@ -85,8 +85,8 @@ high-unique _ _ _ _ _ _ = same
 pub low-unique : OneAnswer low.Post
 low-unique _ _ _ _ _ _ = same
 
-pub on-unique : OneAnswer on.Post
-on-unique _ _ _ _ _ _ = same
+pub further-unique : OneAnswer further.Post
+further-unique _ _ _ _ _ _ = same
 
 pub back-unique : OneAnswer back.Post
 back-unique _ _ _ _ _ _ = same
