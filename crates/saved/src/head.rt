@@ -20,8 +20,6 @@ const MEMORY_LENGTH: u32 = 65_536;
 // How many bytes there are.
 pub(crate) const HEAD_SIZE: usize = 23;
 
-pub(crate) const MEMORY_SIZE: usize = 65_536;
-
 pub(crate) const IMAGE_SIZE: usize = 65_559;
 
 // The head of a state.

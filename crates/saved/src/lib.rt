@@ -4,6 +4,7 @@ pub mod codes;
 mod head;
 
 use machine::Cpu;
+use machine::MEMORY_SIZE;
 ghost use mathlib.Core.Path.{_≡_};
 ghost use Prim.Native.Nat.{_≤_};
 ghost use lib.ListN.{length};
@@ -86,7 +87,7 @@ fn save_image_refusal(cpu: Cpu, mem: &[u8], image: &[u8]) -> u8
     if image.len() != head::IMAGE_SIZE {
         return 6;
     }
-    if mem.len() != head::MEMORY_SIZE {
+    if mem.len() != MEMORY_SIZE {
         return 1;
     }
     head::flags_refusal(cpu.f)

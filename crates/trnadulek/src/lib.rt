@@ -4,6 +4,7 @@
 mod wording;
 
 use insn::table;
+use machine::LARGEST_BUDGET;
 use machine::run;
 use saved::block;
 ghost use mathlib.Core.Path.{_≡_};
@@ -154,7 +155,7 @@ pub extern "C" fn trnadulek_size(which: u32) -> u32
         1 => 14,
         2 => 65_536,
         3 => 65_559,
-        4 => 1_048_576,
+        4 => LARGEST_BUDGET,
         _ => 0,
     }
 }
