@@ -112,18 +112,25 @@ INSTRUCTIONS = [
 
 CHEATS = [
     Change(
-        "a step and a run refuse every memory",
-        (RUN, "    if mem.len() != MEMORY_SIZE {\n        return refused(1, start);", "    if mem.len() != 0 {\n        return refused(1, start);"),
+        "a step refuses every memory",
+        (
+            RUN,
+            "    if mem.len() != MEMORY_SIZE {\n        return Stepped {",
+            "    if mem.len() != 0 {\n        return Stepped {",
+        ),
     ),
-    Change("a run refuses every budget but 0", (RUN, "if budget <= LARGEST_BUDGET {", "if budget <= 0 {")),
+    Change(
+        "a run refuses every memory",
+        (RUN, "    if mem.len() != MEMORY_SIZE {\n        return refused(1, cpu);", "    if mem.len() != 0 {\n        return refused(1, cpu);"),
+    ),
     Change("a step always says that it is done", (RUN, "code: r.code,", "code: 0,")),
     Change("an addition has a fixed answer", ("arith/src/bytes.rt", "let value = (sum % 256) as u8;", "let value = (0 % 256) as u8;")),
-    Change("memory is never touched", ("machine/src/memory.rt", "mem[i] = v;", "mem[i] = mem[i];")),
+    Change("memory is never touched", ("machine/src/memory.rt", "mem[at as usize] = v;", "mem[at as usize] = mem[at as usize];")),
     Change(
         "memory is never touched, by the definition",
         ("machine/specs/Memory.antt", "stored m at v = set m at v", "stored m at v = set m at (byteAt m at)"),
     ),
-    Change("a step does the work of a whole run", (RUN, "run_within(cpu, mem, 1)", "run_within(cpu, mem, 1048576)")),
+    Change("a step does the work of a whole run", (RUN, "run_from(cpu, mem, 1)", "run_from(cpu, mem, 1048576)")),
     Change("the cycles of a step are invented", (RUN, "cycles: (r.spent % 256) as u8,", "cycles: (r.steps % 256) as u8,")),
     Change("the cycles of a run are invented", (RUN, "    Ran {\n        code: 0,\n        spent,", "    Ran {\n        code: 0,\n        spent: budget,")),
     Change(

@@ -23,7 +23,6 @@ use Rattle.machine.proofs.Costs.{step-paid}
 use Rattle.machine.proofs.Keeps.{step-length, step-low}
 use Rattle.machine.proofs.Refused.{step-unmoved, due-code-least, due-code-most}
 use Rattle.machine.proofs.Rules.{step-due}
-use Rattle.machine.proofs.Stages.{stage-unfit, stage-flags}
 
 -- a turn of a run: nothing is due, the step is refused, or it is accepted
 data Turn (b spent : ℕ) (s : Cpu) (m : Memory) : Type 0 where
@@ -83,6 +82,9 @@ step-run-at s m (refused n p e) =
     run-refused 1 0 0 s m 0 n p e ∙ rw (e, u .cpu ne, u .mem ne, u .cycles ne)
 step-run-at s m (goes p e) =
     run-goes 1 0 0 s m 0 p e ∙ run-over 1 _ 1 _ _ 0 (omega (arith, step-paid s m .least e)) ∙ rw (e, zero-add)
+
+pub step-is-run : (s : Cpu) (m : Memory) → runFrom 1 1 0 0 s m ≡ oneStep (stepOf s m)
+step-is-run s m = step-run-at s m (turn 1 0 s m)
 
 -- fuel: with as many turns as the budget has cycles left, more turns change nothing
 
@@ -171,18 +173,6 @@ pub run-valid : (b : ℕ) (s : Cpu) (m : Memory) → length m ≡ memorySize →
     → runOf b s m ≡ runFrom b b 0 0 s m
 unfolding order runs
 run-valid b s m l f p = rw (eq-eqb _ _ l, eq-eqb _ _ f, le-ltb _ _ p)
-
--- a step is the run of budget 1, refusals 1 and 2 too
-pub step-is-run : (s : Cpu) (m : Memory) → runOf 1 s m ≡ oneStep (stepOf s m)
-unfolding stepsTaken
-step-is-run s m = by-tests _ _ refl refl
-  where
-    by-tests : (l f : Bool) → eqb (length m) memorySize ≡ l → eqb (s .f % 16) 0 ≡ f → runOf 1 s m ≡ oneStep (stepOf s m)
-    by-tests false f p q = run-unfit 1 s m (eqb-false _ _ p) ∙ rw (stage-unfit s m (eqb-false _ _ p))
-    by-tests true false p q =
-        run-flags 1 s m (eqb-true _ _ p) (eqb-false _ _ q) ∙ rw (stage-flags s m (eqb-true _ _ p) (eqb-false _ _ q))
-    by-tests true true p q =
-        run-valid 1 s m (eqb-true _ _ p) (eqb-true _ _ q) (omega arith) ∙ step-run-at s m (turn 1 0 s m)
 
 -- budget 0 takes no step
 pub run-none : (s : Cpu) (m : Memory) → length m ≡ memorySize → s .f % 16 ≡ 0 → runOf 0 s m ≡ ending 0 0 0 s m

@@ -6,6 +6,8 @@ use crate::Mode;
 use crate::loads;
 use insn::Insn;
 ghost use mathlib.Core.Path.{_≡_};
+ghost use lib.ListN.{length};
+ghost use Rattle.machine.specs.Memory.{memorySize};
 ghost use Rattle.machine.specs.Answers.{Gives, making};
 ghost use Rattle.machine.specs.Execute.{done, execOf};
 
@@ -21,6 +23,7 @@ impl Cpu {
     }
 
     pub(crate) fn execute(self, i: Insn, mem: &mut [u8]) -> Done
+        requires { ⌜ length (now mem) ≡ memorySize ⌝ }
         ensures { λ r. ⌜ Gives (making (execOf i self (now (mem .entry))) (now (mem .entry))) r (now (mem .exit)) ⌝ }
     {
         match i {

@@ -6,7 +6,9 @@ use crate::memory;
 use crate::modes;
 use arith::bytes;
 ghost use mathlib.Core.Path.{_≡_};
+ghost use lib.ListN.{length};
 ghost use Prim.Native.Nat.{_≤_};
+ghost use Rattle.machine.specs.Memory.{memorySize};
 ghost use Rattle.machine.specs.Answers.{Gives, making};
 ghost use Rattle.machine.specs.Interrupts.{lowestOf, dispatchDueOf, vectoredOf, dispatchOf};
 
@@ -48,6 +50,7 @@ impl Cpu {
 
     // Bit k of IF is cleared before PC is pushed.
     pub(crate) fn dispatch(self, k: u8, mem: &mut [u8]) -> Cpu
+        requires { ⌜ length (now mem) ≡ memorySize ⌝ }
         requires { ⌜ k ≤ 4 ⌝ }
         ensures { λ r. ⌜ Gives (making (dispatchOf k self (now (mem .entry))) (now (mem .entry))) r (now (mem .exit)) ⌝ }
     {

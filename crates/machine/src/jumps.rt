@@ -4,10 +4,11 @@ use crate::Done;
 use arith::words;
 use insn::Cond;
 ghost use mathlib.Core.Path.{_≡_};
+ghost use lib.ListN.{length};
 ghost use Rattle.arith.specs.Words.{offsetOf};
 ghost use Rattle.machine.specs.Answers.{Gives, storing, making};
 ghost use Rattle.machine.specs.Execute.{takenIf, storesIf};
-ghost use Rattle.machine.specs.Memory.{wordAt};
+ghost use Rattle.machine.specs.Memory.{memorySize, wordAt};
 ghost use Rattle.machine.specs.Stack.{calledOf, returnedTo};
 ghost use Rattle.machine.specs.State.{withPc, metOf, hlOf};
 
@@ -53,6 +54,7 @@ impl Cpu {
 
     // A taken one costs 3 more.
     pub(crate) fn call_if(self, cc: Cond, to: u16, mem: &mut [u8]) -> Done
+        requires { ⌜ length (now mem) ≡ memorySize ⌝ }
         ensures { λ r. ⌜ Gives (making (storing (takenIf (metOf cc (self .f)) 3 (calledOf to self .out) self) (storesIf (metOf cc (self .f)) (calledOf to self .stores))) (now (mem .entry))) r (now (mem .exit)) ⌝ }
     {
         if self.met(cc) {
@@ -70,6 +72,7 @@ impl Cpu {
 
     // A taken one costs 3 more.
     pub(crate) fn ret_if(self, cc: Cond, mem: &[u8]) -> Done
+        requires { ⌜ length (now mem) ≡ memorySize ⌝ }
         ensures { λ r. ⌜ r ≡ takenIf (metOf cc (self .f)) 3 (returnedTo (wordAt (now (mem .entry)) (self .sp)) self) self ⌝ }
     {
         if self.met(cc) {

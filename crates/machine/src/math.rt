@@ -11,12 +11,14 @@ use insn::Operand;
 use insn::Pair;
 use insn::Place;
 ghost use mathlib.Core.Path.{_≡_};
+ghost use lib.ListN.{length};
 ghost use mathlib.Core.Bool.{Bool, true, not};
 ghost use Rattle.arith.specs.Bytes.{aluOf, increasedOf, decreasedOf, resetOf, setOf, testedOf};
 ghost use Rattle.arith.specs.Decimal.{decimalOf};
 ghost use Rattle.arith.specs.Flags.{cOf};
 ghost use Rattle.arith.specs.Rotates.{rotationOf, rotationAOf};
 ghost use Rattle.arith.specs.Words.{further, back};
+ghost use Rattle.machine.specs.Memory.{memorySize};
 ghost use Rattle.machine.specs.Answers.{Gives, making};
 ghost use Rattle.machine.specs.Execute.{resultOf, addedToHlOf, addedToSpOf, complementedOf, withCarryOf};
 ghost use Rattle.machine.specs.Operands.{valueOf, heldOf, placedOf, updatedOf};
@@ -24,6 +26,7 @@ ghost use Rattle.machine.specs.State.{withF, pairOf, withPair};
 
 impl Cpu {
     pub(crate) fn math(mut self, op: Alu, o: Operand, mem: &[u8]) -> Cpu
+        requires { ⌜ length (now mem) ≡ memorySize ⌝ }
         ensures { λ r. ⌜ r ≡ resultOf (aluOf op (self .a) (valueOf o self (now (mem .entry))) (self .f)) self ⌝ }
     {
         let r = bytes::operate(op, self.a, self.value(o, mem), self.f);
@@ -33,6 +36,7 @@ impl Cpu {
     }
 
     pub(crate) fn increase(self, p: Place, mem: &mut [u8]) -> Cpu
+        requires { ⌜ length (now mem) ≡ memorySize ⌝ }
         ensures { λ r. ⌜ Gives (making (updatedOf p (increasedOf (heldOf p self (now (mem .entry))) (self .f)) self) (now (mem .entry))) r (now (mem .exit)) ⌝ }
     {
         let v = self.held(p, &*mem);
@@ -40,6 +44,7 @@ impl Cpu {
     }
 
     pub(crate) fn decrease(self, p: Place, mem: &mut [u8]) -> Cpu
+        requires { ⌜ length (now mem) ≡ memorySize ⌝ }
         ensures { λ r. ⌜ Gives (making (updatedOf p (decreasedOf (heldOf p self (now (mem .entry))) (self .f)) self) (now (mem .entry))) r (now (mem .exit)) ⌝ }
     {
         let v = self.held(p, &*mem);
@@ -47,6 +52,7 @@ impl Cpu {
     }
 
     pub(crate) fn rotate(self, op: Rot, p: Place, mem: &mut [u8]) -> Cpu
+        requires { ⌜ length (now mem) ≡ memorySize ⌝ }
         ensures { λ r. ⌜ Gives (making (updatedOf p (rotationOf op (heldOf p self (now (mem .entry))) (cOf (self .f))) self) (now (mem .entry))) r (now (mem .exit)) ⌝ }
     {
         let v = self.held(p, &*mem);
@@ -54,6 +60,7 @@ impl Cpu {
     }
 
     pub(crate) fn reset(self, k: u8, p: Place, mem: &mut [u8]) -> Cpu
+        requires { ⌜ length (now mem) ≡ memorySize ⌝ }
         ensures { λ r. ⌜ Gives (making (placedOf p (resetOf k (heldOf p self (now (mem .entry)))) self) (now (mem .entry))) r (now (mem .exit)) ⌝ }
     {
         let v = self.held(p, &*mem);
@@ -61,6 +68,7 @@ impl Cpu {
     }
 
     pub(crate) fn set(self, k: u8, p: Place, mem: &mut [u8]) -> Cpu
+        requires { ⌜ length (now mem) ≡ memorySize ⌝ }
         ensures { λ r. ⌜ Gives (making (placedOf p (setOf k (heldOf p self (now (mem .entry)))) self) (now (mem .entry))) r (now (mem .exit)) ⌝ }
     {
         let v = self.held(p, &*mem);
@@ -68,6 +76,7 @@ impl Cpu {
     }
 
     pub(crate) fn test(mut self, k: u8, p: Place, mem: &[u8]) -> Cpu
+        requires { ⌜ length (now mem) ≡ memorySize ⌝ }
         ensures { λ r. ⌜ r ≡ withF (testedOf k (heldOf p self (now (mem .entry))) (self .f)) self ⌝ }
     {
         self.f = bytes::test(k, self.held(p, mem), self.f);

@@ -4,6 +4,8 @@ use crate::Ime;
 use crate::Mode;
 use crate::memory;
 ghost use mathlib.Core.Path.{_≡_};
+ghost use lib.ListN.{length};
+ghost use Rattle.machine.specs.Memory.{memorySize};
 ghost use Rattle.machine.specs.Execute.{haltMode, haltedOf};
 ghost use Rattle.machine.specs.Modes.{isOff, isOn, isHalted, isStopped, armedOf, settledIme};
 ghost use Rattle.machine.specs.State.{withIme};
@@ -88,6 +90,7 @@ impl Cpu {
 
     // With IME Off and a request pending the byte after HALT is read twice.
     pub(crate) fn halt(self, mem: &[u8]) -> Cpu
+        requires { ⌜ length (now mem) ≡ memorySize ⌝ }
         ensures { λ r. ⌜ r ≡ haltedOf self (now (mem .entry)) ⌝ }
     {
         let ime = self.ime;

@@ -8,7 +8,9 @@ use insn::Place;
 use insn::Pointer;
 use insn::Register;
 ghost use mathlib.Core.Path.{_≡_};
+ghost use lib.ListN.{length};
 ghost use Rattle.insn.specs.Grid.{operandOf};
+ghost use Rattle.machine.specs.Memory.{memorySize};
 ghost use Rattle.machine.specs.Answers.{Gives, making};
 ghost use Rattle.machine.specs.Operands.{valueOf, heldOf, placedOf, updatedOf, pointedOf, movedOf};
 
@@ -30,6 +32,7 @@ fn operand(p: Place) -> Operand
 
 impl Cpu {
     pub(crate) fn value(self, o: Operand, mem: &[u8]) -> u8
+        requires { ⌜ length (now mem) ≡ memorySize ⌝ }
         ensures { λ r. ⌜ r ≡ valueOf o self (now (mem .entry)) ⌝ }
     {
         match o {
@@ -41,6 +44,7 @@ impl Cpu {
 
     // The byte in a place.
     pub(crate) fn held(self, p: Place, mem: &[u8]) -> u8
+        requires { ⌜ length (now mem) ≡ memorySize ⌝ }
         ensures { λ r. ⌜ r ≡ heldOf p self (now (mem .entry)) ⌝ }
     {
         self.value(operand(p), mem)
@@ -48,6 +52,7 @@ impl Cpu {
 
     // A byte put into a place.
     pub(crate) fn place(self, p: Place, v: u8, mem: &mut [u8]) -> Cpu
+        requires { ⌜ length (now mem) ≡ memorySize ⌝ }
         ensures { λ r. ⌜ Gives (making (placedOf p v self) (now (mem .entry))) r (now (mem .exit)) ⌝ }
     {
         match p {
@@ -67,6 +72,7 @@ impl Cpu {
 
     // A result put back into its place, with its F.
     pub(crate) fn update(mut self, p: Place, r: Byte, mem: &mut [u8]) -> Cpu
+        requires { ⌜ length (now mem) ≡ memorySize ⌝ }
         ensures { λ n. ⌜ Gives (making (updatedOf p r self) (now (mem .entry))) n (now (mem .exit)) ⌝ }
     {
         self.f = r.flags;

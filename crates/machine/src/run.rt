@@ -6,10 +6,12 @@ use crate::MEMORY_SIZE;
 use crate::Ran;
 use crate::Stepped;
 ghost use mathlib.Core.Path.{_≡_};
-ghost use Prim.Native.Nat.{_≤_};
+ghost use lib.ListN.{length};
+ghost use Prim.Native.Nat.{_%_, _≤_};
+ghost use Rattle.machine.specs.Memory.{memorySize};
 ghost use Rattle.machine.specs.Answers.{Gives};
 ghost use Rattle.machine.specs.Step.{stepOf};
-ghost use Rattle.machine.specs.Run.{largestBudget, runOf};
+ghost use Rattle.machine.specs.Run.{largestBudget, runFrom, runOf};
 
 // A run that is refused before its first step.
 fn refused(code: u8, cpu: Cpu) -> Ran
@@ -23,18 +25,14 @@ fn refused(code: u8, cpu: Cpu) -> Ran
     }
 }
 
-// Steps while the cycles spent are below the budget. The length is tested where the loop is, so that the compiler drops the tests of
-// every read and store in it.
-fn run_within(start: Cpu, mem: &mut [u8], budget: u32) -> Ran
+// Steps while the cycles spent are below the budget. Its callers test what it asks for: a test of the length in here would cost a
+// step of the loop an instruction.
+fn run_from(start: Cpu, mem: &mut [u8], budget: u32) -> Ran
+    requires { ⌜ length (now mem) ≡ memorySize ⌝ }
+    requires { ⌜ start .f % 16 ≡ 0 ⌝ }
     requires { ⌜ budget ≤ largestBudget ⌝ }
-    ensures { λ r. ⌜ Gives (runOf budget start (now (mem .entry))) r (now (mem .exit)) ⌝ }
+    ensures { λ r. ⌜ Gives (runFrom budget budget 0 0 start (now (mem .entry))) r (now (mem .exit)) ⌝ }
 {
-    if mem.len() != MEMORY_SIZE {
-        return refused(1, start);
-    }
-    if start.f % 16 != 0 {
-        return refused(2, start);
-    }
     let mut cpu = start;
     let mut spent: u32 = 0;
     let mut steps: u32 = 0;
@@ -66,7 +64,21 @@ fn run_within(start: Cpu, mem: &mut [u8], budget: u32) -> Ran
 pub fn step(cpu: Cpu, mem: &mut [u8]) -> Stepped
     ensures { λ r. ⌜ Gives (stepOf cpu (now (mem .entry))) r (now (mem .exit)) ⌝ }
 {
-    let r = run_within(cpu, mem, 1);
+    if mem.len() != MEMORY_SIZE {
+        return Stepped {
+            code: 1,
+            cycles: 0,
+            cpu,
+        };
+    }
+    if cpu.f % 16 != 0 {
+        return Stepped {
+            code: 2,
+            cycles: 0,
+            cpu,
+        };
+    }
+    let r = run_from(cpu, mem, 1);
     let after = r.cpu;
     Stepped {
         code: r.code,
@@ -80,14 +92,14 @@ pub fn step(cpu: Cpu, mem: &mut [u8]) -> Stepped
 pub fn run(cpu: Cpu, mem: &mut [u8], budget: u32) -> Ran
     ensures { λ r. ⌜ Gives (runOf budget cpu (now (mem .entry))) r (now (mem .exit)) ⌝ }
 {
-    if budget <= LARGEST_BUDGET {
-        return run_within(cpu, mem, budget);
-    }
     if mem.len() != MEMORY_SIZE {
         return refused(1, cpu);
     }
     if cpu.f % 16 != 0 {
         return refused(2, cpu);
     }
-    refused(5, cpu)
+    if LARGEST_BUDGET < budget {
+        return refused(5, cpu);
+    }
+    run_from(cpu, mem, budget)
 }

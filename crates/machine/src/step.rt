@@ -13,6 +13,7 @@ ghost use mathlib.Core.Bool.{true};
 ghost use mathlib.Core.Path.{_≡_};
 ghost use Prim.Native.Nat.{_+_, _≤_};
 ghost use lib.ListN.{length};
+ghost use Rattle.machine.specs.Memory.{memorySize};
 ghost use Rattle.machine.specs.Answers.{Gives};
 ghost use Rattle.machine.specs.Modes.{settledIme};
 ghost use Rattle.machine.specs.State.{withIme};
@@ -87,6 +88,7 @@ impl Cpu {
     // Rule 3: the instruction at PC, its other bytes from rest on, or the refusal of an undefined one. IME is what an instruction
     // that leaves it alone ends with: Arming has become On.
     fn instruction_step(self, rest: u16, ime: Ime, mem: &mut [u8]) -> Stepped
+        requires { ⌜ length (now mem) ≡ memorySize ⌝ }
         requires { ⌜ rest ≡ nextRest self ⌝ }
         requires { ⌜ ime ≡ settledIme (self .ime) (self .ime) ⌝ }
         ensures { λ r. ⌜ Gives (instructionStep self (now (mem .entry))) r (now (mem .exit)) ⌝ }
@@ -109,6 +111,7 @@ impl Cpu {
 
     // The idle step, refusal 3, the dispatch or the instruction.
     pub(crate) fn due_step(self, mem: &mut [u8]) -> Stepped
+        requires { ⌜ length (now mem) ≡ memorySize ⌝ }
         ensures { λ r. ⌜ Gives (dueStep self (now (mem .entry))) r (now (mem .exit)) ⌝ }
     {
         let mode = self.mode;

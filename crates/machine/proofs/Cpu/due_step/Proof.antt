@@ -70,7 +70,7 @@ carried c =
     (c .if1 .came)
 
 instruction-step-requires : tie.Need-instruction-step-requires
-instruction-step-requires c κs = let k = carried (c .before) in (k .1, k .0)
+instruction-step-requires c κs = let k = carried (c .before) in (search needs, (k .1, k .0))
 
 returns-4 : tie.Need-returns-4
 returns-4 c = rw (carried (c .before .before .before .before) .2) (c .before .before .instruction-step .ensures)

@@ -27,7 +27,7 @@ fetched c =
       c .before .read-word .ensures,
       c .before .before .before .read2 .ensures,
       c .before .before .before .before .before .read .ensures,
-      start c .pre .0,
+      start c .pre .1 .0,
     )
     at (c .decode .ensures)
 
@@ -59,9 +59,9 @@ returns-2 c =
     let x = c .before .before .before in
     let f = x .before .before .before .before .before in
     let a = start f .args in
-    let on = x .before .before .before .further .ensures ∙ ap (further (f .decode .result .more)) (start f .pre .0) in
+    let on = x .before .before .before .further .ensures ∙ ap (further (f .decode .result .more)) (start f .pre .1 .0) in
     rw
-    (runs-here (a .self) (a .mem .now) (f .decode .result) (fetched f) (a .ime) (start f .pre .1)
+    (runs-here (a .self) (a .mem .now) (f .decode .result) (fetched f) (a .ime) (start f .pre .1 .1)
     (x .before .before .before .before .if1 .left))
     (rw (
       c .accepted .ensures,
