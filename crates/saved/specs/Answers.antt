@@ -6,6 +6,7 @@ use mathlib.Core.List.{List, []}
 use mathlib.Core.Path.{_≡_}
 use denote.Ref.{RefT, now, ptr}
 use Rattle.arith.specs.Refusals.{unlessRefused}
+use Rattle.machine.specs.Memory.{Memory}
 use Rattle.machine.specs.Answers.{With}
 use Rattle.machine.specs.declared.Cpu.{Cpu}
 use Rattle.saved.specs.Block.{clearedState}
@@ -18,7 +19,7 @@ unfoldable pub stateIf : ℕ → List ℕ → Cpu
 stateIf code h = unlessRefused code (λ _. stateIn h) (λ _. clearedState)
 
 -- the memory where nothing is refused, and an empty part where something is
-unfoldable pub memoryIf : ℕ → List ℕ → List ℕ
+unfoldable pub memoryIf : ℕ → List ℕ → Memory
 memoryIf code image = unlessRefused code (λ _. memoryIn image) (λ _. [])
 
 unfoldable pub loadedBy : ℕ → List ℕ → Loaded
@@ -54,5 +55,5 @@ savedBy code new old = record { out = code; mem = leftBy code new old }
 unfoldable pub saveHeadOf : Cpu → List ℕ → With ℕ
 saveHeadOf s h = savedBy (saveHeadCode s h) (headOf s) h
 
-unfoldable pub saveImageOf : Cpu → List ℕ → List ℕ → With ℕ
+unfoldable pub saveImageOf : Cpu → Memory → List ℕ → With ℕ
 saveImageOf s m image = savedBy (saveImageCode s m image) (imageOf s m) image

@@ -11,7 +11,7 @@ use Rattle.arith.specs.Words.{wordOf}
 use Rattle.digits.specs.Digits.{numberIn}
 use Rattle.digits.specs.Ascii.{ascii, space, newline}
 use Rattle.digits.specs.Numerals.{hexText, decimalText}
-use Rattle.machine.specs.Memory.{memorySize}
+use Rattle.machine.specs.Memory.{Memory, memorySize}
 use Rattle.machine.specs.Answers.{With, keeping}
 use Rattle.machine.specs.Run.{runOf}
 use Rattle.machine.specs.declared.Cpu.{Cpu}
@@ -81,15 +81,15 @@ ranText r = printed (lineIf (isBare (r .code)) r)
 unfoldable pub ranOf : With Ran → With Text
 ranOf w = record { out = ranText (w .out); mem = w .mem }
 
-unfoldable pub loadedRun : ℕ → Cpu → ℕ → List ℕ → With Text
+unfoldable pub loadedRun : ℕ → Cpu → ℕ → Memory → With Text
 loadedRun code s budget m = unlessRefused code (λ _. ranOf (runOf budget s m)) (λ n. keeping (printed (refusalLine n)) m)
 
 -- an input of the right length, or 6
-unfoldable pub answerIf : Bool → List ℕ → List ℕ → With Text
+unfoldable pub answerIf : Bool → List ℕ → Memory → With Text
 answerIf true lead m =
     loadedRun (loadHeadOf (drop budgetSize lead) .code) (loadHeadOf (drop budgetSize lead) .cpu) (numberIn budgetSize 0 lead) m
 answerIf false lead m = keeping (printed (refusalLine 6)) m
 
 -- the lead and the memory, and how many bytes the input has
-unfoldable pub answerOf : ℕ → List ℕ → List ℕ → With Text
+unfoldable pub answerOf : ℕ → List ℕ → Memory → With Text
 answerOf got lead m = answerIf (eqb got inputSize && eqb (length lead) leadSize) lead m

@@ -4,6 +4,7 @@
 use Prim.Native.Nat.{ℕ}
 use mathlib.Core.Bool.{Bool, true, false}
 use mathlib.Core.List.{List}
+use Rattle.machine.specs.Memory.{Memory}
 use Rattle.machine.specs.Answers.{With, keeping}
 use Rattle.saved.specs.Block.{blockOf, heldIn, hasCodes}
 use Rattle.saved.specs.Answers.{loadHeadOf, openOf, saveHeadOf, saveImageOf}
@@ -27,5 +28,5 @@ savedIf false saved old = keeping 9 old
 unfoldable pub saveBlockOf : List ℕ → List ℕ → With ℕ
 saveBlockOf b head = savedIf (hasCodes b) (saveHeadOf (heldIn b) head) head
 
-unfoldable pub saveBlockImageOf : List ℕ → List ℕ → List ℕ → With ℕ
+unfoldable pub saveBlockImageOf : List ℕ → Memory → List ℕ → With ℕ
 saveBlockImageOf b memory image = savedIf (hasCodes b) (saveImageOf (heldIn b) memory image) image

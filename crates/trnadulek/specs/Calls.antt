@@ -6,6 +6,7 @@ use mathlib.Core.Bool.{Bool, true, false}
 use mathlib.Core.List.{List}
 use mathlib.Core.Path.{_≡_}
 use Rattle.arith.specs.Refusals.{unlessRefused}
+use Rattle.machine.specs.Memory.{Memory}
 use Rattle.machine.specs.Answers.{With}
 use Rattle.machine.specs.Step.{stepOf}
 use Rattle.machine.specs.Run.{runOf}
@@ -19,10 +20,10 @@ use Rattle.saved.specs.Refusals.{loadCode}
 pub record BlockStep : Type 0 where
   pub code : ℕ
   pub state : List ℕ
-  pub memory : List ℕ
+  pub memory : Memory
   pub cycles : ℕ
 
-pub record StepGives (w : BlockStep) (code : ℕ) (state memory : List ℕ) (cycles : ℕ) : Type 0 where
+pub record StepGives (w : BlockStep) (code : ℕ) (state : List ℕ) (memory : Memory) (cycles : ℕ) : Type 0 where
   pub answers : code ≡ w .code
   pub leaves-state : state ≡ w .state
   pub leaves-memory : memory ≡ w .memory
@@ -33,22 +34,22 @@ unfoldable pub blockStepped : With Stepped → BlockStep
 blockStepped w = record { code = w .out .code; state = blockOf (w .out .cpu); memory = w .mem; cycles = w .out .cycles }
 
 -- 9 comes first: a block whose codes stand for nothing holds no state, and nothing changes
-unfoldable pub stepIf : Bool → List ℕ → List ℕ → BlockStep
+unfoldable pub stepIf : Bool → List ℕ → Memory → BlockStep
 stepIf true b m = blockStepped (stepOf (heldIn b) m)
 stepIf false b m = record { code = 9; state = b; memory = m; cycles = 0 }
 
-unfoldable pub stepBlockOf : List ℕ → List ℕ → BlockStep
+unfoldable pub stepBlockOf : List ℕ → Memory → BlockStep
 stepBlockOf b m = stepIf (hasCodes b) b m
 
 -- a run: its number, the state block, the memory, the cycles spent and the steps taken
 pub record BlockRun : Type 0 where
   pub code : ℕ
   pub state : List ℕ
-  pub memory : List ℕ
+  pub memory : Memory
   pub spent : ℕ
   pub steps : ℕ
 
-pub record RunGives (w : BlockRun) (code : ℕ) (state memory : List ℕ) (spent steps : ℕ) : Type 0 where
+pub record RunGives (w : BlockRun) (code : ℕ) (state : List ℕ) (memory : Memory) (spent steps : ℕ) : Type 0 where
   pub answers : code ≡ w .code
   pub leaves-state : state ≡ w .state
   pub leaves-memory : memory ≡ w .memory
@@ -65,11 +66,11 @@ blockRan w =
       steps = w .out .steps;
     }
 
-unfoldable pub runIf : Bool → ℕ → List ℕ → List ℕ → BlockRun
+unfoldable pub runIf : Bool → ℕ → List ℕ → Memory → BlockRun
 runIf true budget b m = blockRan (runOf budget (heldIn b) m)
 runIf false budget b m = record { code = 9; state = b; memory = m; spent = 0; steps = 0 }
 
-unfoldable pub runBlockOf : ℕ → List ℕ → List ℕ → BlockRun
+unfoldable pub runBlockOf : ℕ → List ℕ → Memory → BlockRun
 runBlockOf budget b m = runIf (hasCodes b) budget b m
 
 -- a run of an image: its number, the image, the cycles spent and the steps taken
