@@ -4,6 +4,9 @@ use Rattle.arith.specs.Bytes.{comparedOf}
 use Rattle.arith.proofs.bytes.compare.Statement.{statement}
 use Rattle.arith.proofs.bytes.compare.Tie as tie
 
-pub compare-spec : {M : Type 1} → statement M
+returns : tie.Need-returns
 unfolding comparedOf
-compare-spec = tie.close (tie.spec (search needs) (λ c. rw (c .subtract .ensures)))
+returns c = rw (c .subtract .ensures)
+
+pub compare-spec : {M : Type 1} → statement M
+compare-spec = tie.close (tie.spec (search needs) returns)
