@@ -124,7 +124,7 @@ CHEATS = [
         (RUN, "    if mem.len() != MEMORY_SIZE {\n        return refused(1, cpu);", "    if mem.len() != 0 {\n        return refused(1, cpu);"),
     ),
     Change("a step always says that it is done", (RUN, "code: r.code,", "code: 0,")),
-    Change("an addition has a fixed answer", ("arith/src/bytes.rt", "let value = (sum % 256) as u8;", "let value = (0 % 256) as u8;")),
+    Change("an addition has a fixed answer", ("arith/src/bytes.rt", "let value = (sum % 256) as u8;", "let value = (sum % 1) as u8;")),
     Change("memory is never touched", ("machine/src/memory.rt", "mem[at as usize] = v;", "mem[at as usize] = mem[at as usize];")),
     Change(
         "memory is never touched, by the definition",
