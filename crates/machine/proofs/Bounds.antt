@@ -34,7 +34,7 @@ use Rattle.insn.specs.declared.Insn.{Insn}
 use Rattle.insn.specs.declared.Insn.the-variants.{Nop, StoreSp, Stop, Jr, JrIf, LoadPair, AddHl, StoreAt, LoadAt, IncPair, DecPair, Inc, Dec, Load, RotateA, Daa, Cpl, Scf, Ccf, Halt, Math, RetIf, StoreHigh, AddSp, LoadHigh, LoadHlSp, Pop, Ret, Reti, JumpHl, LoadSpHl, JumpIf, StoreHighC, StoreTo, LoadHighC, LoadFrom, Jump, Rotate, Bit, Res, Set, Di, Ei, CallIf, Push, Call, Rst, Undefined}
 use Rattle.insn.proofs.Sound.{SoundOperand, SoundInsn, place-sound, decode-sound}
 use Rattle.machine.specs.State.{withF, registerOf, withRegister, hlOf, withHl, withPair, withStacked}
-use Rattle.machine.specs.Answers.{With, Storing, storing, storeless}
+use Rattle.machine.specs.Answers.{With, Storing, storing}
 use Rattle.machine.specs.Memory.{Memory, byteAt, wordAt, Store, store, wordStores, stored, made}
 use Rattle.machine.specs.Stack.{pushedOf, returnedTo, calledOf}
 use Rattle.machine.specs.Operands.{valueOf, heldOf, placedOf, updatedOf, movedOf}

@@ -3,24 +3,21 @@
 -- Assumes nothing.
 use Prim.Native.Nat.{_%_}
 use mathlib.Core.Bool.{true, false, _&&_, and-false}
-use mathlib.Core.List.{[], _∷_}
 use mathlib.Core.Logic.{_≢_}
 use mathlib.Core.Path.{_≡_}
 use borrow.Author.Tests.{eq-eqb, ne-eqb}
 use lib.Dec.{eqb}
 use lib.ListN.{length}
-use Rattle.arith.specs.Refusals.{_when_, order}
+use Rattle.arith.specs.Refusals.{order}
 use Rattle.arith.specs.Words.{further}
-use Rattle.insn.specs.Shapes.{isUndefined}
 use Rattle.machine.specs.Memory.{Memory, memorySize}
-use Rattle.machine.specs.Answers.{With, storeless}
+use Rattle.machine.specs.Answers.{storeless}
 use Rattle.machine.specs.Modes.{isOn, isHalted, isStopped}
 use Rattle.machine.specs.Interrupts.{pendingOf, lowestOf, dispatchDueOf, dispatchOf}
-use Rattle.machine.specs.Step.{act, refusing, accepting, dispatches, idles, pastFirst, nextRest, nextInsn, instructionAct, ruleBy, ruleOf, inputRefusals, dueRefusals, stepRefusals, stepUnless, instructionStep, dueStep, stepOf}
+use Rattle.machine.specs.Step.{act, refusing, accepting, dispatches, idles, pastFirst, nextRest, ruleBy, ruleOf, inputRefusals, dueRefusals, stepRefusals, instructionStep, dueStep, stepOf}
 use Rattle.machine.specs.declared.Ime.the-variants.{Off}
 use Rattle.machine.specs.declared.Mode.the-variants.{Running}
 use Rattle.machine.specs.declared.Cpu.{Cpu}
-use Rattle.machine.specs.declared.Stepped.{Stepped}
 use Rattle.machine.proofs.Rules.{idle-is}
 
 module _ (s : Cpu) (m : Memory) where

@@ -1,11 +1,11 @@
 -- `due_step` meets its contract: the idle step, refusal 3, the dispatch and the instruction, each under its tests.
-use mathlib.Core.Bool.{true, false, _&&_}
+use mathlib.Core.Bool.{true, _&&_}
 use mathlib.Core.Logic.{⊎-elim}
 use mathlib.Core.Path.{_≡_, sym, _∙_}
 use borrow.Author.Tests.{not-false}
 use lib.Dec.{eqb}
 use Rattle.machine.specs.Interrupts.{pendingOf, dispatchDueOf}
-use Rattle.machine.specs.Modes.{settledIme, isHalted, isStopped}
+use Rattle.machine.specs.Modes.{settledIme, isHalted}
 use Rattle.machine.specs.Step.{nextRest, instructionStep, dueStep}
 use Rattle.machine.proofs.Gives.{exactly, needs}
 use Rattle.machine.proofs.Stages.{stage-stopped, stage-dispatch, stage-idle, stage-insn, quiet-rest, stage-quiet}

@@ -1,6 +1,6 @@
 -- `run_from` meets its contract. The loop's invariant: memory and F stay valid, the counts stay in their bounds, and what is left
 -- of the run gives what the whole run gives. The measure is what is left of the budget.
-use Prim.Native.Nat.{_+_, _-_, _%_, _≤_, _<_}
+use Prim.Native.Nat.{_+_, _-_, _%_, _≤_}
 use mathlib.Core.Logic.{_≢_}
 use mathlib.Core.Path.{_≡_, refl, sym, _∙_, ap}
 use native.Mathlib.Omega.{arith}
@@ -8,7 +8,6 @@ use lib.ListN.{length}
 use Rattle.machine.specs.Memory.{memorySize}
 use Rattle.machine.specs.Run.{runFrom}
 use Rattle.machine.specs.Step.{dueStep}
-use Rattle.machine.specs.declared.Cpu.{Cpu}
 use Rattle.machine.specs.declared.Stepped.{Stepped}
 use Rattle.machine.proofs.Costs.{due-paid}
 use Rattle.machine.proofs.Gives.{exactly, needs}

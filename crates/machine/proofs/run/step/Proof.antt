@@ -1,6 +1,5 @@
 -- `step` meets its contract: refusals 1 and 2, then the run of budget 1, which is one step.
 use Prim.Native.Nat.{_<_}
-use mathlib.Core.Path.{_≡_, _∙_}
 use native.Mathlib.Nat.{mod-eq-of-lt}
 use native.Mathlib.Omega.{arith}
 use Rattle.machine.specs.Step.{stepOf}
