@@ -1,5 +1,6 @@
-//! Witness one: a second program for the SM83, written from document 01 and
-//! the rgbds instruction reference alone, to be held against the proved core.
+//! Witness one: a second program for the SM83, written from document 01, M-100
+//! of document 02 and the rgbds instruction reference alone, to be held against
+//! the proved core.
 //!
 //! Every opcode byte has a case of its own (`opcodes` and `prefixed`), so
 //! the opcode grid of document 01 is nowhere used to decode.

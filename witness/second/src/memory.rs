@@ -17,6 +17,8 @@ pub type Memory = [u8; SIZE];
 pub struct Machine<'a> {
     pub r: State,
     memory: &'a mut Memory,
+    /// PC as the step began: where the first byte of an instruction is read from.
+    pub start: u16,
     /// Cycles on top of the untaken cost: a condition was met.
     pub extra: u8,
 }
@@ -26,6 +28,7 @@ impl<'a> Machine<'a> {
         Machine {
             r,
             memory,
+            start: r.pc,
             extra: 0,
         }
     }
@@ -80,10 +83,14 @@ impl<'a> Machine<'a> {
 
     pub fn push(&mut self, word: u16) {
         let [low, high] = word.to_le_bytes();
+        self.push_byte(high);
+        self.push_byte(low);
+    }
+
+    /// Half of a push: SP one lower, and the byte stored there.
+    pub fn push_byte(&mut self, byte: u8) {
         self.r.sp = self.r.sp.wrapping_sub(1);
-        self.store(self.r.sp, high);
-        self.r.sp = self.r.sp.wrapping_sub(1);
-        self.store(self.r.sp, low);
+        self.store(self.r.sp, byte);
     }
 
     pub fn pop(&mut self) -> u16 {

@@ -333,9 +333,15 @@ fn load_hl_sp_plus(m: &mut Machine, offset: u8) {
     m.r.set_hl(sum);
 }
 
+/// A request that is pending keeps it from halting. Under Arming PC goes back to the
+/// HALT, so that the dispatch that follows returns to it.
 fn halt(m: &mut Machine) {
-    let repeats = m.r.ime == Ime::Off && m.pending() != 0;
-    m.r.mode = if repeats { Mode::Repeat } else { Mode::Halted };
+    let requested = m.pending() != 0;
+    match m.r.ime {
+        Ime::Off if requested => m.r.mode = Mode::Repeat,
+        Ime::Arming if requested => m.r.pc = m.start,
+        _ => m.r.mode = Mode::Halted,
+    }
 }
 
 /// Off becomes Arming; the step itself turns Arming to On.

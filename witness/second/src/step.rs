@@ -38,7 +38,7 @@ pub fn step_valid(state: State, memory: &mut Memory) -> Stepped {
     let machine = Machine::new(state, memory);
     let pending = machine.pending();
     if state.ime == Ime::On && pending != 0 {
-        dispatch(machine, pending)
+        dispatch(machine)
     } else if state.mode == Mode::Halted && pending == 0 {
         done(1, state)
     } else {
@@ -62,15 +62,30 @@ fn done(cycles: u8, state: State) -> Stepped {
     }
 }
 
-/// Serves the lowest request: it is cleared first, PC is pushed after that.
-fn dispatch(mut machine: Machine, pending: u8) -> Stepped {
-    let request = pending.trailing_zeros() as u8;
-    let cleared = machine.read(IF) & !(1 << request);
-    machine.store(IF, cleared);
-    machine.call(u16::from(0x40 + 8 * request));
+/// Goes to a request's vector (document 02, M-100). Which request that is shows only
+/// after the high byte of PC is stored, which can land on IE or IF. It is cleared
+/// before the low byte is stored, which can land there too.
+fn dispatch(mut machine: Machine) -> Stepped {
+    let [low, high] = machine.r.pc.to_le_bytes();
+    machine.push_byte(high);
+    machine.r.pc = take_request(&mut machine);
+    machine.push_byte(low);
     machine.r.ime = Ime::Off;
     machine.r.mode = Mode::Running;
     done(5, machine.r)
+}
+
+/// Clears the lowest request and gives its vector. Where none is left, IF stays and
+/// the vector is 0.
+fn take_request(machine: &mut Machine) -> u16 {
+    let pending = machine.pending();
+    if pending == 0 {
+        return 0;
+    }
+    let request = pending.trailing_zeros() as u8;
+    let cleared = machine.read(IF) & !(1 << request);
+    machine.store(IF, cleared);
+    u16::from(0x40 + 8 * request)
 }
 
 fn instruction(mut machine: Machine) -> Stepped {

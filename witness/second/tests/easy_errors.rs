@@ -101,32 +101,3 @@ fn the_prefix_in_repeat_is_its_own_second_byte() {
     };
     assert_eq!((stepped.state, stepped.cycles), (after, 2));
 }
-
-#[test]
-fn a_request_is_cleared_before_pc_is_pushed_over_it() {
-    let before = State {
-        pc: 0xABCD,
-        sp: 0xFF10,
-        ime: Ime::On,
-        ..State::default()
-    };
-    let mut memory = memory(&[(IE, &[0x01]), (IF, &[0x01])]);
-    let after = step(before, &mut memory).state;
-    assert_eq!((after.pc, after.sp), (0x0040, 0xFF0E));
-    assert_eq!(memory[0xFF0E..0xFF10], [0xCD, 0xAB]);
-}
-
-#[test]
-fn the_vector_is_chosen_before_the_push() {
-    let before = State {
-        pc: 0x0000,
-        sp: 0x0000,
-        ime: Ime::On,
-        ..State::default()
-    };
-    let mut memory = memory(&[(IE, &[0x04]), (IF, &[0xFF])]);
-    let after = step(before, &mut memory).state;
-    assert_eq!((after.pc, after.sp), (0x0050, 0xFFFE));
-    assert_eq!(memory[usize::from(IE)], 0x00);
-    assert_eq!(memory[usize::from(IF)], 0xFB);
-}

@@ -52,11 +52,14 @@ fn arming_lets_one_instruction_run_before_a_dispatch() {
 
 #[test]
 fn halt_repeats_only_when_off_with_a_request() {
-    let halt = |ime, request| switch_and_mode(step_with(0x76, at(ime, Mode::Running), request));
+    let halt = |ime, request| {
+        let stepped = step_with(0x76, at(ime, Mode::Running), request);
+        assert_eq!((stepped.state.pc, stepped.cycles), (0x0201, 1));
+        switch_and_mode(stepped)
+    };
     assert_eq!(halt(Ime::Off, false), (Ime::Off, Mode::Halted));
     assert_eq!(halt(Ime::Off, true), (Ime::Off, Mode::Repeat));
     assert_eq!(halt(Ime::Arming, false), (Ime::On, Mode::Halted));
-    assert_eq!(halt(Ime::Arming, true), (Ime::On, Mode::Halted));
     assert_eq!(halt(Ime::On, false), (Ime::On, Mode::Halted));
 }
 

@@ -100,6 +100,7 @@ fn an_undefined_byte_changes_nothing_under_any_switch() {
 fn an_undefined_byte_is_not_run_when_a_dispatch_is_due() {
     let mut memory = memory(&[(0, &[0xD3]), (IE, &[0x01]), (IF, &[0x01])]);
     let state = State {
+        sp: 0xD000,
         ime: Ime::On,
         ..State::default()
     };
