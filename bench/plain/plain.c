@@ -11,7 +11,7 @@
 
 enum { ZERO = 0x80, SUBTRACTED = 0x40, HALF = 0x20, CARRY = 0x10 };
 enum { REQUESTED = 0xFF0F, ENABLED = 0xFFFF, HIGH_PAGE = 0xFF00 };
-enum { PREFIX = 0xCB, DI = 0xF3 };
+enum { HALT = 0x76, PREFIX = 0xCB, DI = 0xF3 };
 
 #define IN_THE_LOOP static inline __attribute__((always_inline))
 
@@ -436,7 +436,7 @@ IN_THE_LOOP unsigned execute(struct plain *r, uint8_t *m, uint8_t opcode) {
 	case 0x73: m[hl(r)] = r->e; return 2;                                  /* LD [HL],E */
 	case 0x74: m[hl(r)] = r->h; return 2;                                  /* LD [HL],H */
 	case 0x75: m[hl(r)] = r->l; return 2;                                  /* LD [HL],L */
-	case 0x76:                                                             /* HALT */
+	case HALT:
 		r->mode = r->ime == PLAIN_OFF && pending(m) ? PLAIN_REPEAT : PLAIN_HALTED;
 		return 1;
 	case 0x77: m[hl(r)] = r->a; return 2;                                  /* LD [HL],A */
@@ -527,12 +527,23 @@ IN_THE_LOOP unsigned execute(struct plain *r, uint8_t *m, uint8_t opcode) {
 	__builtin_unreachable(); /* all 256 bytes have a case */
 }
 
-/* Serves the lowest request: cleared first, PC pushed after that. */
-static inline unsigned dispatch(struct plain *r, uint8_t *m, unsigned requests) {
+/* Clears the lowest request and answers its vector, 0 where there is none. */
+static inline uint16_t take_request(uint8_t *m) {
+	unsigned requests = pending(m);
+	if (!requests) {
+		return 0;
+	}
 	unsigned k = (unsigned) __builtin_ctz(requests);
 	m[REQUESTED] &= (uint8_t) ~(1u << k);
-	push(r, m, r->pc);
-	r->pc = (uint16_t) (0x40 + 8 * k);
+	return (uint16_t) (0x40 + 8 * k);
+}
+
+/* The request is taken between the two stores, of which either may land on it. */
+static inline unsigned dispatch(struct plain *r, uint8_t *m) {
+	uint16_t pc = r->pc;
+	m[--r->sp] = (uint8_t) (pc >> 8);
+	r->pc = take_request(m);
+	m[--r->sp] = (uint8_t) pc;
 	r->ime = PLAIN_OFF;
 	r->mode = PLAIN_RUNNING;
 	return 5;
@@ -553,6 +564,10 @@ IN_THE_LOOP unsigned instruction(struct plain *r, uint8_t *m) {
 		r->mode = mode;
 	} else if (arming && opcode != DI) {
 		r->ime = PLAIN_ON;
+		if (opcode == HALT && pending(m)) { /* the handler returns to it */
+			r->pc = pc;
+			r->mode = PLAIN_RUNNING;
+		}
 	}
 	return cycles;
 }
@@ -562,7 +577,7 @@ IN_THE_LOOP unsigned instruction(struct plain *r, uint8_t *m) {
 IN_THE_LOOP unsigned step(struct plain *r, uint8_t *m) {
 	unsigned requests = pending(m);
 	if (r->ime == PLAIN_ON && requests) {
-		return dispatch(r, m, requests);
+		return dispatch(r, m);
 	}
 	if (r->mode == PLAIN_HALTED && !requests) {
 		return 1;

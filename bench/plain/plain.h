@@ -1,7 +1,7 @@
 /* A plain SM83 core in C, written for the benchmark: the bound that the proved
- * core is measured against. It keeps all the rules of document 01 for a step and
- * a run, and no promise but the comparison with the second program stands
- * behind it. */
+ * core is measured against. It keeps all the rules of document 01, and of M-100 in
+ * document 02, for a step and a run, and no promise but the comparison with the
+ * second program stands behind it. */
 
 #ifndef PLAIN_H
 #define PLAIN_H
