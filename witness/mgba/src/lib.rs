@@ -1,9 +1,10 @@
 //! Witness two: mGBA's bare SM83 core, driven one step at a time over flat memory.
 //!
-//! What mGBA judges is what its core does by itself: instructions, dispatch, the
-//! repeated byte after a HALT, cycles. Four things are the board's and not the
-//! core's, and `shim.c` is that board: idling while halted, the cycle by which an
-//! EI is late, what a HALT turns into, and the choice of the vector.
+//! What mGBA judges is what its core does by itself: instructions, dispatch and the
+//! order within it, the repeated byte after a HALT, cycles. Four things are the
+//! board's and not the core's, and `shim.c` is that board: idling while halted, the
+//! cycle by which an EI is late, what a HALT turns into, and the choice of the
+//! vector, for which the core asks between the two stores of a dispatch.
 
 use second::{Ime, Mode, State};
 use std::ptr::NonNull;

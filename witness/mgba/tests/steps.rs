@@ -80,6 +80,32 @@ fn a_dispatch_takes_five_cycles_and_fetches_nothing() {
     );
 }
 
+/// PC and IF after a dispatch with IE $04 and IF $0C: request 2 is due.
+fn dispatched(sp: u16, pc: u16) -> (u16, u8) {
+    let mut memory = memory(&[(IE, 0x04), (IF, 0x0C)]);
+    let state = State {
+        ime: Ime::On,
+        pc,
+        sp,
+        ..State::default()
+    };
+    let outcome = step(&state, &mut memory);
+    assert_eq!((outcome.state.sp, outcome.cycles), (sp.wrapping_sub(2), 5));
+    (outcome.state.pc, memory[usize::from(IF)])
+}
+
+#[test]
+fn a_dispatch_asks_for_the_vector_between_its_two_stores() {
+    // The high byte goes over IE: it keeps the request, changes it, and leaves none.
+    assert_eq!(dispatched(0x0000, 0x0450), (0x0050, 0x08));
+    assert_eq!(dispatched(0x0000, 0x0850), (0x0058, 0x04));
+    assert_eq!(dispatched(0x0000, 0x2050), (0x0000, 0x0C));
+    // The high byte goes over IF; the low byte goes over IF, and over IE.
+    assert_eq!(dispatched(0xFF10, 0x1650), (0x0050, 0x12));
+    assert_eq!(dispatched(0xFF11, 0x12AB), (0x0050, 0xAB));
+    assert_eq!(dispatched(0x0001, 0x1200), (0x0050, 0x08));
+}
+
 #[test]
 fn ei_is_late_by_one_instruction_and_reti_is_not() {
     let mut memory = memory(&[(0, 0xFB), (2, 0xD9), (8, 0xF3)]);
@@ -110,6 +136,26 @@ fn halt_with_a_request_and_the_switch_off_repeats_the_next_byte() {
     let outcome = step(&outcome.state, &mut memory);
     assert_eq!((outcome.state.a, outcome.state.pc), (0x3E, 2));
     assert_eq!((outcome.state.mode, outcome.fetched), (Mode::Running, 2));
+}
+
+#[test]
+fn halt_under_arming_with_a_request_goes_on() {
+    // PC is past it, but for Repeat, where the first byte does not move PC.
+    let places = [(Mode::Running, 1), (Mode::Repeat, 0), (Mode::Halted, 1)];
+    for (mode, pc) in places {
+        let armed = State {
+            ime: Ime::Arming,
+            mode,
+            ..State::default()
+        };
+        let outcome = step(&armed, &mut memory(&[(0, 0x76), (IE, 1), (IF, 1)]));
+        let gone_on = State {
+            pc,
+            ime: Ime::On,
+            ..State::default()
+        };
+        assert_eq!((outcome.state, outcome.cycles), (gone_on, 1), "{mode:?}");
+    }
 }
 
 #[test]
