@@ -6,7 +6,7 @@
 
 use crate::answer::{same, same_answer, same_block, same_bytes, Answer};
 use crate::excuse::{self, Seen};
-use crate::paper::{self, IF, MEMORY_SIZE};
+use crate::paper::{self, MEMORY_SIZE};
 use crate::{plain, proved};
 use second::State;
 use std::borrow::Cow;
@@ -118,8 +118,8 @@ impl Bench {
         Ok(Step { answer, judged })
     }
 
-    /// A whole verdict on refusals, dispatch and idling; of an instruction only that
-    /// it is accepted and has a cost.
+    /// A whole verdict on refusals, dispatch, idling and HALT; of another instruction
+    /// only that it is accepted and has a cost.
     fn hold_to_paper(&self, before: &State, answer: &Answer) -> Result<bool, String> {
         let code = paper::step_code(before, &self.base);
         let mut memory = Cow::Borrowed(&self.base);
@@ -129,6 +129,8 @@ impl Bench {
             paper::dispatch(before, memory.to_mut())
         } else if paper::idles(before, &self.base) {
             Answer::of_step(code, 1, *before)
+        } else if paper::opcode(before, &self.base) == Some(paper::HALT) {
+            paper::halt(before, &self.base)
         } else {
             same("the second program's code", code, answer.code)?;
             same("a cost from 1 to 6", true, (1..=6).contains(&answer.spent))?;
@@ -182,51 +184,44 @@ impl Bench {
         answer: &Answer,
         outcome: &mgba::Outcome,
     ) -> Result<(), String> {
-        let raised_at = usize::from(IF);
-        let plain = Seen {
+        let said = Seen {
             state: answer.state,
             cycles: answer.spent,
-            raised: self.second[raised_at],
         };
         let excuse = excuse::due(before, &self.base);
         let wanted = match excuse {
-            None => plain,
-            Some(n) => excuse::turned(n, before, &self.base, plain)
-                .ok_or_else(|| broken_rule(n, answer))?,
+            None => said,
+            Some(n) => excuse::turned(n, before, said).ok_or_else(|| broken_rule(n, answer))?,
         };
         let expected = Answer::of_step(answer.code, wanted.cycles, wanted.state);
         let given = Answer::of_step(paper::DONE, outcome.cycles, outcome.state);
         same_answer("the second program (expected) and mGBA", &expected, &given)?;
-        same("mGBA's byte at FF0F", wanted.raised, self.mgba[raised_at])?;
-        self.mgba[raised_at] = plain.raised;
-        if let Some(n) = excuse.filter(|_| wanted != plain) {
+        if let Some(n) = excuse {
             self.excuses[n] += 1;
         }
         Ok(())
     }
 
     /// A step of mGBA's core alone, on a memory that isn't the bench's, as document
-    /// 01 would have it. Nothing where that can't be told; the cycles and the state
-    /// mean nothing at an illegal opcode.
-    pub fn mgba_alone(&mut self, state: &State, memory: &mut [u8]) -> Option<mgba::Outcome> {
+    /// 01 would have it. The cycles and the state mean nothing at an illegal opcode.
+    pub fn mgba_alone(&mut self, state: &State, memory: &mut [u8]) -> mgba::Outcome {
         let excuse = excuse::due(state, memory);
         let outcome = self.core.step(state, memory);
         let n = match excuse {
             Some(n) => n,
-            None => return Some(outcome),
+            None => return outcome,
         };
+        self.excuses[n] += 1;
         let seen = Seen {
             state: outcome.state,
             cycles: outcome.cycles,
-            raised: memory[usize::from(IF)],
         };
-        let back = excuse::back(n, seen)?;
-        self.excuses[n] += 1;
-        Some(mgba::Outcome {
-            state: back.state,
-            cycles: back.cycles,
+        let Seen { state, cycles } = excuse::back(n, seen);
+        mgba::Outcome {
+            state,
+            cycles,
             ..outcome
-        })
+        }
     }
 
     fn hold_to_plain(&mut self, before: &State, answer: &Answer) -> Result<bool, String> {

@@ -1,5 +1,6 @@
 //! What document 01 fixes outright, stated here once more and taken from no core:
-//! the refusals and their order, the saved form, the program's text.
+//! the refusals and their order, dispatch and HALT as M-100 of document 02 has them,
+//! the saved form, the program's text.
 
 use crate::answer::Answer;
 use second::{Ime, Mode, State};
@@ -75,21 +76,49 @@ pub fn step_code(state: &State, memory: &[u8]) -> u8 {
     }
 }
 
-/// Rule 1 of a step carried out.
+/// Rule 1 of a step carried out, as document 02's M-100 has it.
 pub fn dispatch(before: &State, memory: &mut [u8]) -> Answer {
-    let k = pending(memory).trailing_zeros() as u16;
-    memory[usize::from(IF)] &= !(1 << k);
     let [high, low] = before.pc.to_be_bytes();
     memory[usize::from(before.sp.wrapping_sub(1))] = high;
+    let mut pc = 0;
+    if pending(memory) != 0 {
+        let k = pending(memory).trailing_zeros() as u16;
+        memory[usize::from(IF)] &= !(1 << k);
+        pc = 0x40 + 8 * k;
+    }
     memory[usize::from(before.sp.wrapping_sub(2))] = low;
     let state = State {
         sp: before.sp.wrapping_sub(2),
-        pc: 0x40 + 8 * k,
+        pc,
         ime: Ime::Off,
         mode: Mode::Running,
         ..*before
     };
     Answer::of_step(DONE, 5, state)
+}
+
+/// HALT where rule 3 of a step reads it, as document 02's M-100 has it.
+pub fn halt(before: &State, memory: &[u8]) -> Answer {
+    let past = match before.mode {
+        Mode::Repeat => before.pc,
+        _ => before.pc.wrapping_add(1),
+    };
+    let (pc, mode) = match (pending(memory) != 0, before.ime) {
+        (true, Ime::Arming) => (before.pc, Mode::Running),
+        (true, Ime::Off) => (past, Mode::Repeat),
+        _ => (past, Mode::Halted),
+    };
+    let ime = match before.ime {
+        Ime::Off => Ime::Off,
+        _ => Ime::On,
+    };
+    let state = State {
+        pc,
+        ime,
+        mode,
+        ..*before
+    };
+    Answer::of_step(DONE, 1, state)
 }
 
 /// The code of a run that isn't begun, or 0.

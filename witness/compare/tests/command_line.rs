@@ -73,8 +73,8 @@ fn list_names_what_can_be_run() {
 #[test]
 fn an_excuse_that_was_not_needed_is_reported() {
     let printed = text(&compare(&["daa"]).stdout);
-    assert_eq!(printed.matches("NEVER NEEDED").count(), 3, "{printed}");
-    let printed = text(&compare(&["sequences", "dispatch"]).stdout);
+    assert_eq!(printed.matches("NEVER NEEDED").count(), 2, "{printed}");
+    let printed = text(&compare(&["sequences"]).stdout);
     assert_eq!(printed.matches("NEVER NEEDED").count(), 0, "{printed}");
 }
 

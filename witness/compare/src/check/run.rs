@@ -71,28 +71,28 @@ pub fn by_steps(state: State, memory: &[u8], budget: u32) -> Ran {
 }
 
 /// The same from mGBA's steps. Nothing where it can't judge: a run that isn't begun,
-/// one without a step of its own, or one that meets a place with no way back.
+/// or one without a step of its own.
 pub fn by_mgba(bench: &mut Bench, state: State, memory: &[u8], budget: u32) -> Option<Ran> {
     let mut memory = memory.to_vec();
     let mut answer = Answer::refused(paper::run_code(&state, &memory, budget), state);
     let mut judged = false;
     while answer.code == paper::DONE && answer.spent < budget {
         judged |= mgba::judges(&answer.state, &memory);
-        let step = mgba_step(bench, answer.state, &mut memory)?;
+        let step = mgba_step(bench, answer.state, &mut memory);
         answer = after(&answer, &step);
     }
     judged.then_some(Ran { answer, memory })
 }
 
-fn mgba_step(bench: &mut Bench, state: State, memory: &mut [u8]) -> Option<Answer> {
+fn mgba_step(bench: &mut Bench, state: State, memory: &mut [u8]) -> Answer {
     if state.mode == Mode::Stopped {
-        return Some(Answer::refused(paper::STOPPED, state));
+        return Answer::refused(paper::STOPPED, state);
     }
-    let outcome = bench.mgba_alone(&state, memory)?;
-    Some(match outcome.illegal {
+    let outcome = bench.mgba_alone(&state, memory);
+    match outcome.illegal {
         true => Answer::refused(paper::UNDEFINED, state),
         false => Answer::of_step(paper::DONE, outcome.cycles, outcome.state),
-    })
+    }
 }
 
 /// A run's answer with one more step.

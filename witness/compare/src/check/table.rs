@@ -55,12 +55,12 @@ fn by_mgba(bench: &mut Bench, row: u32) -> Option<(u8, u8)> {
     if row > 511 || row == u32::from(paper::PREFIX) {
         return None;
     }
-    let clear = run_row(bench, row, 0x00)?;
-    let set = run_row(bench, row, 0xF0)?;
+    let clear = run_row(bench, row, 0x00);
+    let set = run_row(bench, row, 0xF0);
     Some((clear.0, clear.1.min(set.1)))
 }
 
-fn run_row(bench: &mut Bench, row: u32, f: u8) -> Option<(u8, u8)> {
+fn run_row(bench: &mut Bench, row: u32, f: u8) -> (u8, u8) {
     let mut memory = vec![0; paper::MEMORY_SIZE];
     match row {
         0..=255 => memory[0] = row as u8,
@@ -72,9 +72,9 @@ fn run_row(bench: &mut Bench, row: u32, f: u8) -> Option<(u8, u8)> {
         sp: 0xD000,
         ..State::default()
     };
-    let outcome = bench.mgba_alone(&state, &mut memory)?;
-    Some(match outcome.illegal {
+    let outcome = bench.mgba_alone(&state, &mut memory);
+    match outcome.illegal {
         true => EMPTY,
         false => (outcome.fetched as u8, outcome.cycles as u8),
-    })
+    }
 }
