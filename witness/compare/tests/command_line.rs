@@ -57,7 +57,7 @@ fn list_names_what_can_be_run() {
         .lines()
         .filter_map(|line| line.split(' ').next())
         .collect();
-    assert_eq!(names.len(), 28);
+    assert_eq!(names.len(), 29);
     let output = compare(&["--seed", "7", "daa", names[0]]);
     assert!(output.status.success());
     let printed = text(&output.stdout);

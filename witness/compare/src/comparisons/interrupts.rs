@@ -8,13 +8,14 @@ use second::{Ime, Mode, State};
 const NOP: u8 = 0x00;
 const STOP: u8 = 0x10;
 const HALT: u8 = 0x76;
-const RETI: u8 = 0xD9;
+pub const RET: u8 = 0xC9;
+pub const RETI: u8 = 0xD9;
 const DI: u8 = 0xF3;
-const EI: u8 = 0xFB;
+pub const EI: u8 = 0xFB;
 const LETTERS: [u8; 6] = [NOP, STOP, HALT, RETI, DI, EI];
 
 /// IE and IF: none, enabled alone, raised alone, one, all, and bits without meaning.
-const REQUESTS: [(u8, u8); 7] = [
+pub const REQUESTS: [(u8, u8); 7] = [
     (0x00, 0x00),
     (0x1F, 0x00),
     (0x00, 0x1F),
@@ -25,10 +26,13 @@ const REQUESTS: [(u8, u8); 7] = [
 ];
 
 /// What stands at each vector: RETI; EI, RET; DI, HALT.
-const HANDLERS: [[u8; 2]; 3] = [[RETI, NOP], [EI, 0xC9], [DI, HALT]];
+const HANDLERS: [[u8; 2]; 3] = [[RETI, NOP], [EI, RET], [DI, HALT]];
 
-const START: u16 = 0x0150;
-const STACK: u16 = 0xD000;
+/// Where a dispatch leads that finds a request.
+pub const VECTORS: [u16; 5] = [0x40, 0x48, 0x50, 0x58, 0x60];
+
+pub const START: u16 = 0x0150;
+pub const STACK: u16 = 0xD000;
 const STEPS: usize = 10;
 
 /// Every sequence of four letters from Running, and every one of two letters from
@@ -67,7 +71,14 @@ fn under_every_request(
             set_up(context, letters, handler);
             context.bench.poke(IE, enabled);
             context.bench.poke(IF, raised);
-            follow(context, ime, mode)?;
+            let state = State {
+                pc: START,
+                sp: STACK,
+                ime,
+                mode,
+                ..State::default()
+            };
+            follow(context, state, STEPS)?;
             context.bench.rewind();
         }
     }
@@ -87,46 +98,63 @@ fn set_up(context: &mut Context, letters: &[u8], handler: [u8; 2]) {
             stack += 2;
         }
     }
-    for vector in (0x40..0x68).step_by(8) {
-        context.bench.poke(vector, handler[0]);
-        context.bench.poke(vector + 1, handler[1]);
+    for vector in VECTORS {
+        place(context, vector, &handler);
     }
 }
 
-/// Steps until one is refused.
-fn follow(context: &mut Context, ime: Ime, mode: Mode) -> Outcome {
-    let mut state = State {
-        pc: START,
-        sp: STACK,
-        ime,
-        mode,
-        ..State::default()
-    };
-    for _ in 0..STEPS {
+/// Pokes bytes one after the other.
+pub fn place(context: &mut Context, at: u16, bytes: &[u8]) {
+    for (offset, byte) in (0..).zip(bytes) {
+        context.bench.poke(at.wrapping_add(offset), *byte);
+    }
+}
+
+/// Steps until one is refused. Gives the state after them.
+pub fn follow(context: &mut Context, start: State, steps: usize) -> Result<State, Failure> {
+    let mut state = start;
+    for _ in 0..steps {
         let answer = context.step(state)?.answer;
         if answer.code != 0 {
             break;
         }
         state = answer.state;
     }
-    Ok(())
+    Ok(state)
 }
 
-const MEETING_POINTS: [u16; 6] = [0x0000, 0x0001, 0x0002, 0xFF10, 0xFF11, 0xFFFF];
+/// Where a store of the dispatch lands on IE or IF, or passes it by one.
+const MEETING_POINTS: [u16; 8] = [
+    0x0000, 0x0001, 0x0002, 0xFF0F, 0xFF10, 0xFF11, 0xFF12, 0xFFFF,
+];
 const PROGRAM_COUNTERS: usize = 4;
 
-/// Every IE and IF at the stack pointers where a push meets one of them, and at
-/// a random one, from every live mode; then every PC and every SP.
+/// Every IE and IF at the meeting points and at a random SP, from every live mode;
+/// there every high byte of PC, which keeps, changes or cancels the request; then
+/// every PC and every SP.
 pub fn dispatch(context: &mut Context) -> Outcome {
     let background = draw::noise(&mut context.rng);
     context.bench.lay(&background);
-    let requests = (0..32).flat_map(|enabled| (0..32).map(move |raised| (enabled, raised)));
-    for requests in requests {
+    for requests in every_request() {
         for mode in LIVE_MODES {
             at_meeting_points(context, requests, mode)?;
         }
     }
+    for sp in MEETING_POINTS {
+        under_every_high_byte(context, sp)?;
+    }
     everywhere(context)
+}
+
+/// Every IE and IF, as far as they have a meaning.
+pub fn every_request() -> impl Iterator<Item = (u8, u8)> {
+    (0..32).flat_map(|enabled| (0..32).map(move |raised| (enabled, raised)))
+}
+
+/// The same with any bits in the upper three, which mean nothing.
+pub fn with_upper_bits(context: &mut Context, requests: (u8, u8)) -> (u8, u8) {
+    let mut byte = |low| low | (context.rng.byte() & 0xE0);
+    (byte(requests.0), byte(requests.1))
 }
 
 fn at_meeting_points(context: &mut Context, requests: (u8, u8), mode: Mode) -> Outcome {
@@ -134,15 +162,41 @@ fn at_meeting_points(context: &mut Context, requests: (u8, u8), mode: Mode) -> O
     for sp in MEETING_POINTS.into_iter().chain([anywhere]) {
         for _ in 0..PROGRAM_COUNTERS {
             let pc = draw::address(&mut context.rng);
+            let requests = with_upper_bits(context, requests);
             meet(context, requests, mode, sp, pc)?;
         }
     }
     Ok(())
 }
 
+/// Each set of requests alone enabled where all are raised, and alone raised where all
+/// are enabled.
+fn under_every_high_byte(context: &mut Context, sp: u16) -> Outcome {
+    for high in 0..=255 {
+        for set in 1..32 {
+            for requests in [(set, 0x1F), (0x1F, set)] {
+                with_high_byte(context, requests, sp, high)?;
+            }
+        }
+    }
+    Ok(())
+}
+
+/// The upper three bits of IE and IF clear, and set.
+fn with_high_byte(context: &mut Context, requests: (u8, u8), sp: u16, high: u8) -> Outcome {
+    let (enabled, raised) = requests;
+    for upper in [0x00, 0xE0] {
+        let pc = u16::from_be_bytes([high, context.rng.byte()]);
+        let mode = context.rng.pick(&LIVE_MODES);
+        meet(context, (enabled | upper, raised | upper), mode, sp, pc)?;
+    }
+    Ok(())
+}
+
 fn everywhere(context: &mut Context) -> Outcome {
     for value in 0..=0xFFFF {
-        let requests = (0x1F, 1 << context.rng.below(5));
+        let raised = 1 << context.rng.below(5);
+        let requests = with_upper_bits(context, (0x1F, raised));
         let other = context.rng.word();
         meet(context, requests, Mode::Running, other, value)?;
         meet(context, requests, Mode::Running, value, other)?;
@@ -150,13 +204,11 @@ fn everywhere(context: &mut Context) -> Outcome {
     Ok(())
 }
 
-/// One step under IME On with these low five bits of IE and IF.
+/// One step under IME On with this IE and IF.
 fn meet(context: &mut Context, requests: (u8, u8), mode: Mode, sp: u16, pc: u16) -> Outcome {
     let (enabled, raised) = requests;
-    let meaningless = context.rng.word() & 0xE0E0;
-    let [high_enabled, high_raised] = meaningless.to_be_bytes();
-    context.bench.poke(IE, enabled | high_enabled);
-    context.bench.poke(IF, raised | high_raised);
+    context.bench.poke(IE, enabled);
+    context.bench.poke(IF, raised);
     let state = State {
         sp,
         pc,
@@ -166,7 +218,7 @@ fn meet(context: &mut Context, requests: (u8, u8), mode: Mode, sp: u16, pc: u16)
     };
     let answer = context.step(state)?.answer;
     context.bench.rewind();
-    match enabled & raised != 0 && answer.spent != 5 {
+    match enabled & raised & 0x1F != 0 && answer.spent != 5 {
         true => Err(Failure::of_harness("a request was not dispatched")),
         false => Ok(()),
     }

@@ -4,6 +4,7 @@ mod adding;
 mod addresses;
 mod bytes;
 mod cases;
+mod halt;
 mod interrupts;
 mod lengths;
 mod program;
@@ -65,7 +66,7 @@ fn comparison(
 
 /// All of them, in the order in which they are run.
 #[rustfmt::skip] // One line for each.
-pub fn all() -> [Comparison; 28] {
+pub fn all() -> [Comparison; 29] {
     [
         comparison("cases", "the twelve cases of document 01", Both, cases::cases),
         comparison("table", "every row, and rows above 511", Mgba, table::table),
@@ -81,6 +82,7 @@ pub fn all() -> [Comparison; 28] {
         comparison("addresses", "every address, wherever one is held", Both, addresses::addresses),
         comparison("sequences", "EI, DI, RETI, HALT, STOP in sequence", Both, interrupts::sequences),
         comparison("dispatch", "IE, IF and the stack at every meeting", Both, interrupts::dispatch),
+        comparison("halt", "HALT, and handlers that return to it", Both, halt::halt),
         comparison("idle", "Halted without a request", Plain, interrupts::idle),
         comparison("undefined", "the eleven undefined bytes", Both, refusals::undefined),
         comparison("stopped", "a step that is due when Stopped", Plain, refusals::stopped),
