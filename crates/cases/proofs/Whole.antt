@@ -11,7 +11,7 @@ use Rattle.insn.specs.Grid.{grid}
 use Rattle.insn.specs.Shapes.{shapes}
 use Rattle.machine.specs.Memory.{byteAt, stored}
 use Rattle.machine.specs.Modes.{isOn}
-use Rattle.machine.specs.Interrupts.{pendingOf, lowestSet, lowestOf, dispatchDueOf, vectoredOf, dispatchOf}
+use Rattle.machine.specs.Interrupts.{pendingOf, lowestSet, lowestOf, dispatchDueOf, chosenIf, chosenOf, vectoredOf, dispatchOf}
 use Rattle.machine.specs.Execute.{acts}
 use Rattle.machine.specs.Step.{flow}
 
@@ -20,5 +20,5 @@ unfolding sumOf differenceOf carryOf borrowOf weightIf flagsOf zOf nOf hOf cOf a
 numbers = tt
 
 unfoldable pub whole : Unit {0}
-unfolding numbers order grid shapes byteAt stored isOn pendingOf lowestSet lowestOf dispatchDueOf vectoredOf dispatchOf acts flow
+unfolding numbers order grid shapes byteAt stored isOn pendingOf lowestSet lowestOf dispatchDueOf chosenIf chosenOf vectoredOf dispatchOf acts flow
 whole = tt

@@ -4,4 +4,5 @@ pub mod Told
 pub mod Entries
 pub mod Laws
 pub mod Sound
+pub mod Halts
 pub mod Unique

@@ -70,16 +70,16 @@ SoundInsn (Rst n) = n < 256
 SoundInsn Undefined = Unit {0}
 
 -- what holds of each of a list, and of what stands past its end, holds of the k-th
-abbrev Each : {A : Type 0} → (A → Type 0) → List A → Type 0
+abbrev pub Each : {A : Type 0} → (A → Type 0) → List A → Type 0
 Each P [] = Unit {0}
 Each P (x ∷ xs) = P x × Each P xs
 
 -- what holds of the first, and of each of the rest
 infixr 5 _▸_
-abbrev _▸_ : {A B : Type 0} → A → B → A × B
+abbrev pub _▸_ : {A B : Type 0} → A → B → A × B
 a ▸ b = (a, b)
 
-each : {A : Type 0} (P : A → Type 0) (xs : List A) (d : A) → P d → Each P xs → (k : ℕ) → P (getD xs k d)
+pub each : {A : Type 0} (P : A → Type 0) (xs : List A) (d : A) → P d → Each P xs → (k : ℕ) → P (getD xs k d)
 each P [] d h e k = h
 each P (x ∷ xs) d h e zero = e .0
 each P (x ∷ xs) d h e (suc k) = each P xs d h (e .1) k

@@ -3,7 +3,7 @@
 -- Assumes nothing.
 use Prim.Native.Nat.{ℕ, _-_, _%_, _<_, _≤_}
 use mathlib.Core.Bool.{Bool, true, false}
-use mathlib.Core.List.{List, [], _∷_}
+use mathlib.Core.List.{List, [], _∷_, _++_}
 use mathlib.Core.Path.{_≡_, refl}
 use native.Mathlib.Omega.{arith}
 use borrow.Author.Tests.{eqb-true, eqb-false, leb-true, leb-false}
@@ -11,6 +11,7 @@ use lib.Dec.{eqb, leb}
 use lib.ListN.{length}
 use Rattle.arith.specs.Bytes.{addedOf, subtractedOf, logicOf, comparedOf, aluOf}
 use Rattle.arith.specs.Flags.{zOf, cOf}
+use Rattle.arith.specs.Words.{highOf, back}
 use Rattle.arith.specs.Rotates.{rotationOf, rotationAOf}
 use Rattle.arith.specs.declared.Alu.{Alu}
 use Rattle.arith.specs.declared.Alu.the-variants.{Add, Adc, Sub, Sbc, And, Xor, Or, Cp}
@@ -36,11 +37,13 @@ use Rattle.insn.proofs.Sound.{SoundOperand, SoundInsn, place-sound, decode-soun
 use Rattle.machine.specs.State.{withF, registerOf, withRegister, hlOf, withHl, withPair, withStacked}
 use Rattle.machine.specs.Answers.{With, Storing, storing}
 use Rattle.machine.specs.Memory.{Memory, byteAt, wordAt, Store, store, wordStores, stored, made}
-use Rattle.machine.specs.Stack.{pushedOf, returnedTo, calledOf}
+use Rattle.machine.specs.Stack.{highBelow, pushedOf, returnedTo, calledOf}
 use Rattle.machine.specs.Operands.{valueOf, heldOf, placedOf, updatedOf, movedOf}
-use Rattle.machine.specs.Execute.{done, plainly, execOf, resultOf, addedToHlOf, addedToSpOf, hlFromSpOf, takenIf, storesIf, storedTo, storedAtOf, loadedFrom, complementedOf, withCarryOf, haltedOf}
-use Rattle.machine.specs.Interrupts.{pendingOf, lowestSet, lowestOf, vectoredOf, dispatchOf}
+use Rattle.machine.specs.Execute.{done, plainly, execOf, resultOf, addedToHlOf, addedToSpOf, hlFromSpOf, takenIf, storesIf, storedTo, storedAtOf, loadedFrom, complementedOf, withCarryOf, haltedBy, haltedOf}
+use Rattle.machine.specs.Interrupts.{pendingOf, lowestSet, lowestOf, chosenIf, chosenOf, vectoredOf, dispatchOf}
 use Rattle.machine.specs.Step.{act, accepting, nextRest, nextInsn, nextAfter, readyOf, endOf, instructionAct, ruleOf, stepRefusals, stepOf}
+use Rattle.machine.specs.declared.Ime.{Ime}
+use Rattle.machine.specs.declared.Ime.the-variants.{Off, Arming, On}
 use Rattle.machine.specs.declared.Cpu.{Cpu}
 use Rattle.machine.specs.declared.Done.{Done}
 use Rattle.machine.specs.declared.Stepped.{Stepped}
@@ -134,6 +137,13 @@ loaded-sound : (at : ℕ) (s : Cpu) (m : Memory) → Sound s → Bytes m → Sou
 unfolding loadedFrom
 loaded-sound at s m h b = omega (arith, b at)
 
+halted-sound : (b : Bool) (t : Ime) (own : ℕ) (s : Cpu) → own < 65536 → Sound s → Sound (haltedBy b t own s)
+unfolding haltedBy
+halted-sound true Off own s p h = omega arith
+halted-sound true Arming own s p h = omega arith
+halted-sound true On own s p h = omega arith
+halted-sound false t own s p h = omega arith
+
 taken-sound : (t : Bool) (k : ℕ) (next s : Cpu) → Sound next → Sound s → Sound (takenIf t k next s .cpu)
 unfolding takenIf
 taken-sound true k next s n h = n
@@ -209,6 +219,13 @@ stacked-low stacked.De w s p = p
 stacked-low stacked.Hl w s p = p
 stacked-low stacked.Af w s p = omega arith
 
+halted-same : (b : Bool) (t : Ime) (own : ℕ) (s : Cpu) → haltedBy b t own s .f ≡ s .f
+unfolding haltedBy
+halted-same true Off own s = refl
+halted-same true Arming own s = refl
+halted-same true On own s = refl
+halted-same false t own s = refl
+
 -- what a taken branch costs more
 
 taken-most : (t : Bool) (k : ℕ) (next s : Cpu) → takenIf t k next s .extra ≤ k
@@ -217,35 +234,35 @@ taken-most true k next s = omega arith
 taken-most false k next s = omega arith
 
 -- what an instruction makes of the state: valid flags stay valid, and what is sound stays sound
-pub record Changed (i : Insn) (s : Cpu) (m : Memory) (t : Cpu) : Type 0 where
+pub record Changed (own : ℕ) (i : Insn) (s : Cpu) (m : Memory) (t : Cpu) : Type 0 where
   pub low : s .f % 16 ≡ 0 → t .f % 16 ≡ 0
-  pub sound : SoundInsn i → Sound s → Bytes m → Sound t
+  pub sound : own < 65536 → SoundInsn i → Sound s → Bytes m → Sound t
 
 -- what holds of an instruction that is done: it costs no more than its shape says, and its state and its stores are such
-pub record Executed (i : Insn) (s : Cpu) (m : Memory) (w : Storing Done) : Type 0 where
+pub record Executed (own : ℕ) (i : Insn) (s : Cpu) (m : Memory) (w : Storing Done) : Type 0 where
   pub extra : w .out .extra ≤ shapeOf i .taken
-  pub state : Changed i s m (w .out .cpu)
+  pub state : Changed own i s m (w .out .cpu)
   pub stores : Stored i s m (w .stores)
 
-module _ {i : Insn} {s : Cpu} {m : Memory} where
+module _ {own : ℕ} {i : Insn} {s : Cpu} {m : Memory} where
   -- a state with other flags, with the same, and the state itself
-  new : {t : Cpu} → t .f % 16 ≡ 0 → (SoundInsn i → Sound s → Bytes m → Sound t) → Changed i s m t
-  new e h = record { low = λ _. e; sound = h }
+  new : {t : Cpu} → t .f % 16 ≡ 0 → (SoundInsn i → Sound s → Bytes m → Sound t) → Changed own i s m t
+  new e h = record { low = λ _. e; sound = λ _. h }
 
-  same : {t : Cpu} → t .f ≡ s .f → (SoundInsn i → Sound s → Bytes m → Sound t) → Changed i s m t
-  same e h = record { low = λ p. same-low e p; sound = h }
+  same : {t : Cpu} → t .f ≡ s .f → (SoundInsn i → Sound s → Bytes m → Sound t) → Changed own i s m t
+  same e h = record { low = λ p. same-low e p; sound = λ _. h }
 
-  kept : Changed i s m s
+  kept : Changed own i s m s
   kept = same refl (λ _ h _. h)
 
-  plain : {t : Cpu} → Changed i s m t → Executed i s m (plainly t)
+  plain : {t : Cpu} → Changed own i s m t → Executed own i s m (plainly t)
   plain p = record { extra = omega arith; state = p; stores = none }
 
-  does : {t : Cpu} {xs : List Store} → Changed i s m t → Stored i s m xs → Executed i s m (storing (done t) xs)
+  does : {t : Cpu} {xs : List Store} → Changed own i s m t → Stored i s m xs → Executed own i s m (storing (done t) xs)
   does p x = record { extra = omega arith; state = p; stores = x }
 
   branches : (t : Bool) {next : Cpu} {xs : List Store} → next .f ≡ s .f → (SoundInsn i → Sound s → Bytes m → Sound next)
-      → Stored i s m xs → Executed i s m (storing (takenIf t (shapeOf i .taken) next s) xs)
+      → Stored i s m xs → Executed own i s m (storing (takenIf t (shapeOf i .taken) next s) xs)
   branches t e p x =
       record {
         extra = taken-most t _ _ _;
@@ -254,59 +271,60 @@ module _ {i : Insn} {s : Cpu} {m : Memory} where
       }
 
 -- every instruction
-pub executed : (i : Insn) (s : Cpu) (m : Memory) → Executed i s m (execOf i s m)
+pub executed : (own : ℕ) (i : Insn) (s : Cpu) (m : Memory) → Executed own i s m (execOf own i s m)
 unfolding execOf wordStores resultOf addedToHlOf addedToSpOf hlFromSpOf withHl storedTo storedAtOf loadedFrom complementedOf withCarryOf haltedOf rotationOf rotationAOf returnedTo calledOf pushedOf updatedOf
-executed Nop s m = plain kept
-executed (StoreSp w) s m = does kept (two (low-below (s .sp)) (high-below (s .sp)))
-executed Stop s m = plain (same refl (λ i h b. omega arith))
-executed (Jr e) s m = plain (same refl (λ i h b. omega (arith, offset-below e (s .pc))))
-executed (JrIf cc e) s m = branches _ refl (λ i h b. omega (arith, offset-below e (s .pc))) none
-executed (LoadPair w rp) s m = plain (same (pair-same rp _ _) (λ i h b. pair-sound rp w s i h))
-executed (AddHl rp) s m = plain (new (added-hl-fits _ _ _ .flags-low) (λ i h b. hl-sound _ _ (flags-sound _ s (added-hl-fits _ _ _ .flags-below) h)))
-executed (StoreAt p) s m = does (same (moved-same p _) (λ i h b. moved-sound p s h)) (one (λ _ h _. h .a))
-executed (LoadAt p) s m = plain (same (moved-same p _) (λ i h b. moved-sound p _ (loaded-sound _ s m h b)))
-executed (IncPair rp) s m = plain (same (pair-same rp _ _) (λ i h b. pair-sound rp _ s (further-below 1 _) h))
-executed (DecPair rp) s m = plain (same (pair-same rp _ _) (λ i h b. pair-sound rp _ s (back-below 1 _) h))
-executed (Inc q) s m = does (new (same-low (updated-same q _ s) (increased-fits _ _ .flags-low)) (λ i h b. updated-sound q _ s (increased-fits _ _) h)) (place-stores q _ _ (λ i h b. increased-fits _ _ .value-below))
-executed (Dec q) s m = does (new (same-low (updated-same q _ s) (decreased-fits _ _ .flags-low)) (λ i h b. updated-sound q _ s (decreased-fits _ _) h)) (place-stores q _ _ (λ i h b. decreased-fits _ _ .value-below))
-executed (Load q o) s m = does (same (placed-same _ _ _) (λ i h b. placed-sound q _ s (value-below o s m i h b) h)) (place-stores q _ _ (λ i h b. value-below o s m i h b))
-executed (RotateA r) s m = plain (new (flags-low _ _ _ _) (λ i h b. result-sound _ s (rotation-a-fits r (s .a) _ (h .a)) h))
-executed Daa s m = plain (new (decimal-fits _ _ .flags-low) (λ i h b. result-sound _ s (decimal-fits (s .a) (s .f)) h))
-executed Cpl s m = plain (new (flags-low _ _ _ _) (λ i h b. omega (arith, flags-below (zOf (s .f)) true true (cOf (s .f)))))
-executed Scf s m = plain (new (flags-low _ _ _ _) (λ i h b. flags-sound _ s (flags-below _ _ _ _) h))
-executed Ccf s m = plain (new (flags-low _ _ _ _) (λ i h b. flags-sound _ s (flags-below _ _ _ _) h))
-executed Halt s m = plain (same refl (λ i h b. omega arith))
-executed (Math op o) s m = plain (new (alu-low op _ _ _) (λ i h b. result-sound _ s (alu-fits op (s .a) _ (s .f) (h .a) (value-below o s m i h b)) h))
-executed (RetIf cc) s m = branches _ refl (λ i h b. omega (arith, further-below 2 (s .sp), word-at-below m (s .sp) b)) none
-executed (StoreHigh n) s m = does kept (one (λ _ h _. h .a))
-executed (AddSp e) s m = plain (new (added-sp-fits _ _ .flags-low) (λ i h b. let r = added-sp-fits (s .sp) e in omega (arith, r .flags-below, r .value-below)))
-executed (LoadHigh n) s m = plain (same refl (λ i h b. loaded-sound _ s m h b))
-executed (LoadHlSp e) s m = plain (new (added-sp-fits _ _ .flags-low) (λ i h b. hl-sound _ _ (flags-sound _ s (added-sp-fits _ _ .flags-below) h)))
-executed (Pop rp) s m = plain (record { low = stacked-low rp _ _; sound = λ i h b. stacked-sound rp _ _ (omega (arith, further-below 2 (s .sp))) })
-executed Ret s m = plain (same refl (λ i h b. omega (arith, further-below 2 (s .sp), word-at-below m (s .sp) b)))
-executed Reti s m = plain (same refl (λ i h b. omega (arith, further-below 2 (s .sp), word-at-below m (s .sp) b)))
-executed JumpHl s m = plain (same refl (λ i h b. omega (arith, hl-below s h)))
-executed LoadSpHl s m = plain (same refl (λ i h b. omega (arith, hl-below s h)))
-executed (JumpIf cc w) s m = branches _ refl (λ i h b. omega (arith, i)) none
-executed StoreHighC s m = does kept (one (λ _ h _. h .a))
-executed (StoreTo w) s m = does kept (one (λ _ h _. h .a))
-executed LoadHighC s m = plain (same refl (λ i h b. loaded-sound _ s m h b))
-executed (LoadFrom w) s m = plain (same refl (λ i h b. loaded-sound _ s m h b))
-executed (Jump w) s m = plain (same refl (λ i h b. omega (arith, i)))
-executed (Rotate r q) s m = does (new (same-low (updated-same q _ s) (flags-low _ _ _ _)) (λ i h b. updated-sound q _ s (rotation-fits r _ _ (held-below q s m h b)) h)) (place-stores q _ _ (λ i h b. rotation-fits r _ _ (held-below q s m h b) .value-below))
-executed (Bit k q) s m = plain (new (tested-low _ _ _) (λ i h b. flags-sound _ s (tested-below _ _ _) h))
-executed (Res k q) s m = does (same (placed-same _ _ _) (λ i h b. placed-sound q _ s (reset-below k _ (held-below q s m h b)) h)) (place-stores q _ _ (λ i h b. reset-below k _ (held-below q s m h b)))
-executed (Set k q) s m = does (same (placed-same _ _ _) (λ i h b. placed-sound q _ s (set-below k _ (held-below q s m h b)) h)) (place-stores q _ _ (λ i h b. set-below k _ (held-below q s m h b)))
-executed Di s m = plain (same refl (λ i h b. omega arith))
-executed Ei s m = plain (same refl (λ i h b. omega arith))
-executed (CallIf cc w) s m = branches _ refl (λ i h b. omega (arith, back-below 2 (s .sp), i)) (if-stores _ (push-stores _ s))
-executed (Push rp) s m = does (same refl (λ i h b. omega (arith, back-below 2 (s .sp)))) (push-stores _ s)
-executed (Call w) s m = does (same refl (λ i h b. omega (arith, back-below 2 (s .sp), i))) (push-stores _ s)
-executed (Rst v) s m = does (same refl (λ i h b. omega (arith, back-below 2 (s .sp), i))) (push-stores _ s)
-executed Undefined s m = plain kept
+executed own Nop s m = plain kept
+executed own (StoreSp w) s m = does kept (two (low-below (s .sp)) (high-below (s .sp)))
+executed own Stop s m = plain (same refl (λ i h b. omega arith))
+executed own (Jr e) s m = plain (same refl (λ i h b. omega (arith, offset-below e (s .pc))))
+executed own (JrIf cc e) s m = branches _ refl (λ i h b. omega (arith, offset-below e (s .pc))) none
+executed own (LoadPair w rp) s m = plain (same (pair-same rp _ _) (λ i h b. pair-sound rp w s i h))
+executed own (AddHl rp) s m = plain (new (added-hl-fits _ _ _ .flags-low) (λ i h b. hl-sound _ _ (flags-sound _ s (added-hl-fits _ _ _ .flags-below) h)))
+executed own (StoreAt p) s m = does (same (moved-same p _) (λ i h b. moved-sound p s h)) (one (λ _ h _. h .a))
+executed own (LoadAt p) s m = plain (same (moved-same p _) (λ i h b. moved-sound p _ (loaded-sound _ s m h b)))
+executed own (IncPair rp) s m = plain (same (pair-same rp _ _) (λ i h b. pair-sound rp _ s (further-below 1 _) h))
+executed own (DecPair rp) s m = plain (same (pair-same rp _ _) (λ i h b. pair-sound rp _ s (back-below 1 _) h))
+executed own (Inc q) s m = does (new (same-low (updated-same q _ s) (increased-fits _ _ .flags-low)) (λ i h b. updated-sound q _ s (increased-fits _ _) h)) (place-stores q _ _ (λ i h b. increased-fits _ _ .value-below))
+executed own (Dec q) s m = does (new (same-low (updated-same q _ s) (decreased-fits _ _ .flags-low)) (λ i h b. updated-sound q _ s (decreased-fits _ _) h)) (place-stores q _ _ (λ i h b. decreased-fits _ _ .value-below))
+executed own (Load q o) s m = does (same (placed-same _ _ _) (λ i h b. placed-sound q _ s (value-below o s m i h b) h)) (place-stores q _ _ (λ i h b. value-below o s m i h b))
+executed own (RotateA r) s m = plain (new (flags-low _ _ _ _) (λ i h b. result-sound _ s (rotation-a-fits r (s .a) _ (h .a)) h))
+executed own Daa s m = plain (new (decimal-fits _ _ .flags-low) (λ i h b. result-sound _ s (decimal-fits (s .a) (s .f)) h))
+executed own Cpl s m = plain (new (flags-low _ _ _ _) (λ i h b. omega (arith, flags-below (zOf (s .f)) true true (cOf (s .f)))))
+executed own Scf s m = plain (new (flags-low _ _ _ _) (λ i h b. flags-sound _ s (flags-below _ _ _ _) h))
+executed own Ccf s m = plain (new (flags-low _ _ _ _) (λ i h b. flags-sound _ s (flags-below _ _ _ _) h))
+executed own Halt s m = plain (record { low = same-low (halted-same _ (s .ime) own s); sound = λ o i h b. halted-sound _ (s .ime) own s o h })
+executed own (Math op o) s m = plain (new (alu-low op _ _ _) (λ i h b. result-sound _ s (alu-fits op (s .a) _ (s .f) (h .a) (value-below o s m i h b)) h))
+executed own (RetIf cc) s m = branches _ refl (λ i h b. omega (arith, further-below 2 (s .sp), word-at-below m (s .sp) b)) none
+executed own (StoreHigh n) s m = does kept (one (λ _ h _. h .a))
+executed own (AddSp e) s m = plain (new (added-sp-fits _ _ .flags-low) (λ i h b. let r = added-sp-fits (s .sp) e in omega (arith, r .flags-below, r .value-below)))
+executed own (LoadHigh n) s m = plain (same refl (λ i h b. loaded-sound _ s m h b))
+executed own (LoadHlSp e) s m = plain (new (added-sp-fits _ _ .flags-low) (λ i h b. hl-sound _ _ (flags-sound _ s (added-sp-fits _ _ .flags-below) h)))
+executed own (Pop rp) s m = plain (record { low = stacked-low rp _ _; sound = λ _ i h b. stacked-sound rp _ _ (omega (arith, further-below 2 (s .sp))) })
+executed own Ret s m = plain (same refl (λ i h b. omega (arith, further-below 2 (s .sp), word-at-below m (s .sp) b)))
+executed own Reti s m = plain (same refl (λ i h b. omega (arith, further-below 2 (s .sp), word-at-below m (s .sp) b)))
+executed own JumpHl s m = plain (same refl (λ i h b. omega (arith, hl-below s h)))
+executed own LoadSpHl s m = plain (same refl (λ i h b. omega (arith, hl-below s h)))
+executed own (JumpIf cc w) s m = branches _ refl (λ i h b. omega (arith, i)) none
+executed own StoreHighC s m = does kept (one (λ _ h _. h .a))
+executed own (StoreTo w) s m = does kept (one (λ _ h _. h .a))
+executed own LoadHighC s m = plain (same refl (λ i h b. loaded-sound _ s m h b))
+executed own (LoadFrom w) s m = plain (same refl (λ i h b. loaded-sound _ s m h b))
+executed own (Jump w) s m = plain (same refl (λ i h b. omega (arith, i)))
+executed own (Rotate r q) s m = does (new (same-low (updated-same q _ s) (flags-low _ _ _ _)) (λ i h b. updated-sound q _ s (rotation-fits r _ _ (held-below q s m h b)) h)) (place-stores q _ _ (λ i h b. rotation-fits r _ _ (held-below q s m h b) .value-below))
+executed own (Bit k q) s m = plain (new (tested-low _ _ _) (λ i h b. flags-sound _ s (tested-below _ _ _) h))
+executed own (Res k q) s m = does (same (placed-same _ _ _) (λ i h b. placed-sound q _ s (reset-below k _ (held-below q s m h b)) h)) (place-stores q _ _ (λ i h b. reset-below k _ (held-below q s m h b)))
+executed own (Set k q) s m = does (same (placed-same _ _ _) (λ i h b. placed-sound q _ s (set-below k _ (held-below q s m h b)) h)) (place-stores q _ _ (λ i h b. set-below k _ (held-below q s m h b)))
+executed own Di s m = plain (same refl (λ i h b. omega arith))
+executed own Ei s m = plain (same refl (λ i h b. omega arith))
+executed own (CallIf cc w) s m = branches _ refl (λ i h b. omega (arith, back-below 2 (s .sp), i)) (if-stores _ (push-stores _ s))
+executed own (Push rp) s m = does (same refl (λ i h b. omega (arith, back-below 2 (s .sp)))) (push-stores _ s)
+executed own (Call w) s m = does (same refl (λ i h b. omega (arith, back-below 2 (s .sp), i))) (push-stores _ s)
+executed own (Rst v) s m = does (same refl (λ i h b. omega (arith, back-below 2 (s .sp), i))) (push-stores _ s)
+executed own Undefined s m = plain kept
 
-pub exec-bytes : (i : Insn) (s : Cpu) (m : Memory) → SoundInsn i → Sound s → Bytes m → Bytes (made (execOf i s m .stores) m)
-exec-bytes i s m k h b = made-bytes (execOf i s m .stores) m (executed i s m .stores .small k h b) b
+pub exec-bytes : (own : ℕ) (i : Insn) (s : Cpu) (m : Memory) → SoundInsn i → Sound s → Bytes m
+    → Bytes (made (execOf own i s m .stores) m)
+exec-bytes own i s m k h b = made-bytes (execOf own i s m .stores) m (executed own i s m .stores .small k h b) b
 
 -- a dispatch
 
@@ -322,6 +340,21 @@ pub lowest-most : (p : ℕ) → lowestOf p ≤ 4
 unfolding lowestOf
 lowest-most p = lowest-at _ _ _ _
 
+-- what is chosen: a vector, and a byte stored
+pub record ChosenFits (w : Storing ℕ) : Type 0 where
+  pub vector-below : w .out < 65536
+  pub small-then : (xs : List Store) → Small xs → Small (w .stores ++ xs)
+
+chosen-at : (p : Bool) (k : ℕ) (m : Memory) → k ≤ 4 → Bytes m → ChosenFits (chosenIf p k m)
+unfolding chosenIf
+chosen-at true k m l b =
+    record { vector-below = omega arith; small-then = λ _ h. (reset-below k _ (b 0xFF0F), h) }
+chosen-at false k m l b = record { vector-below = omega arith; small-then = λ _ h. h }
+
+pub chosen-fits : (m : Memory) → Bytes m → ChosenFits (chosenOf m)
+unfolding chosenOf
+chosen-fits m b = chosen-at _ _ m (lowest-most (pendingOf m)) b
+
 -- a step
 
 pub record SoundStep (w : With Stepped) : Type 0 where
@@ -329,13 +362,14 @@ pub record SoundStep (w : With Stepped) : Type 0 where
   pub mem : Bytes (w .mem)
 
 module _ (s : Cpu) (m : Memory) (h : Sound s) (b : Bytes m) where
-  dispatch-sound : SoundStep (accepting (act 5 (dispatchOf (lowestOf (pendingOf m)) s m)) m)
-  unfolding dispatchOf pushedOf vectoredOf
+  dispatch-sound : SoundStep (accepting (act 5 (dispatchOf s m)) m)
+  unfolding dispatchOf vectoredOf
   dispatch-sound =
+      let higher = stored-bytes m (back 1 (s .sp)) (highOf (s .pc)) (high-below (s .pc)) b in
+      let c = chosen-fits (made (highBelow (s .sp) (s .pc) ∷ []) m) higher in
       record {
-        cpu = omega (arith, lowest-most (pendingOf m), back-below 2 (s .sp));
-        mem = made-bytes (dispatchOf (lowestOf (pendingOf m)) s m .stores) m
-            (reset-below _ _ (b 0xFF0F), (high-below (s .pc), (low-below (s .pc), tt))) b;
+        cpu = omega (arith, c .vector-below, back-below 2 (s .sp));
+        mem = made-bytes (dispatchOf s m .stores) m (high-below (s .pc), c .small-then _ (low-below (s .pc), tt)) b;
       }
 
   pub next-sound : SoundInsn (nextInsn s m)
@@ -349,10 +383,10 @@ module _ (s : Cpu) (m : Memory) (h : Sound s) (b : Bytes m) where
   insn-sound : SoundStep (accepting (instructionAct s m) m)
   unfolding instructionAct endOf
   insn-sound =
-      let r = executed (nextInsn s m) (readyOf (nextAfter s m) s) m .state .sound next-sound ready-sound b in
+      let r = executed (s .pc) (nextInsn s m) (readyOf (nextAfter s m) s) m .state .sound (h .pc) next-sound ready-sound b in
       record {
         cpu = omega (arith, r);
-        mem = exec-bytes (nextInsn s m) (readyOf (nextAfter s m) s) m next-sound ready-sound b;
+        mem = exec-bytes (s .pc) (nextInsn s m) (readyOf (nextAfter s m) s) m next-sound ready-sound b;
       }
 
   rule-sound : SoundStep (accepting (ruleOf s m) m)

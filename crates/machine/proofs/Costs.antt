@@ -1,6 +1,6 @@
 -- What a step costs: an instruction at most 6 cycles, those of a branch taken among them; an accepted step 1 to 6.
 -- Assumes nothing.
-use Prim.Native.Nat.{_+_, _≤_}
+use Prim.Native.Nat.{ℕ, _+_, _≤_}
 use mathlib.Core.List.{List}
 use mathlib.Core.Path.{_≡_}
 use native.Mathlib.Omega.{arith}
@@ -18,8 +18,8 @@ use Rattle.machine.proofs.Bounds.{executed}
 use Rattle.machine.proofs.Rules.{by-outcome, by-rules}
 use Rattle.machine.proofs.Refused.{due-least, step-least}
 
-pub insn-most : (i : Insn) (s : Cpu) (m : Memory) → shapeOf i .cycles + execOf i s m .out .extra ≤ 6
-insn-most i s m = omega (arith, cycles-most i, executed i s m .extra)
+pub insn-most : (own : ℕ) (i : Insn) (s : Cpu) (m : Memory) → shapeOf i .cycles + execOf own i s m .out .extra ≤ 6
+insn-most own i s m = omega (arith, cycles-most i, executed own i s m .extra)
 
 -- where a step is accepted it costs 1 to 6
 pub record Paid (w : With Stepped) : Type 0 where
@@ -34,7 +34,7 @@ module _ (s : Cpu) (m : Memory) where
       record {
         dispatch = omega arith;
         idle = omega arith;
-        insn = insn-most (nextInsn s m) (readyOf (nextAfter s m) s) m;
+        insn = insn-most (s .pc) (nextInsn s m) (readyOf (nextAfter s m) s) m;
       }
 
   most-of : (rs : List Refusal) → stepUnless rs (ruleOf s m) s m .out .cycles ≤ 6

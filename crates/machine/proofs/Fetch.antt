@@ -1,8 +1,8 @@
--- The instruction at PC as the code fetches it: what its bytes decode to, and the two ends of rule 3, where IME is settled before
--- the instruction.
+-- The instruction at PC as the code fetches it: what its bytes decode to, and the two ends of rule 3, where IME is settled before the
+-- instruction.
 -- Assumes nothing.
 use mathlib.Core.Logic.{_≢_}
-use mathlib.Core.Path.{_≡_, ap}
+use mathlib.Core.Path.{_≡_}
 use borrow.Author.Tests.{ne-eqb}
 use Rattle.arith.specs.Refusals.{order}
 use Rattle.arith.specs.Words.{further}
@@ -12,12 +12,10 @@ use Rattle.insn.proofs.Laws.{undefined-is}
 use Rattle.machine.specs.Execute.{execOf}
 use Rattle.machine.specs.State.{withIme}
 use Rattle.machine.specs.Memory.{Memory, byteAt, wordAt}
-use Rattle.machine.specs.Modes.{settledIme}
-use Rattle.machine.specs.Step.{Act, refusing, accepting, nextRest, nextInsn, nextAfter, readyOf, endOf, instructionAct, instructionStep}
+use Rattle.machine.specs.Step.{refusing, accepting, nextRest, nextInsn, nextAfter, readyOf, endOf, SettledBy, instructionStep}
 use Rattle.machine.specs.declared.Ime.{Ime}
 use Rattle.machine.specs.declared.Ime.the-variants.{Off}
 use Rattle.machine.specs.declared.Cpu.{Cpu}
-use Rattle.machine.proofs.Arming.{settled-first}
 
 module _ (s : Cpu) (m : Memory) (d : Decoded)
     (read : d ≡ decodedOf (byteAt m (s .pc)) (byteAt m (nextRest s)) (wordAt m (nextRest s))) where
@@ -41,10 +39,9 @@ module _ (s : Cpu) (m : Memory) (d : Decoded)
   unfolding order
   undefined-here e = rw (← insn-told, undefined-is, ← cycles-told, e)
 
-  pub runs-here : (ime : Ime) → ime ≡ settledIme (s .ime) (s .ime) → d .cycles ≢ 0
+  pub runs-here : (ime : Ime) → SettledBy ime s m → d .cycles ≢ 0
       → instructionStep s m
-      ≡ accepting (endOf (d .cycles) Off (execOf (d .insn) (withIme ime (readyOf (further (d .more) (nextRest s)) s)) m)) m
-  unfolding order readyOf instructionAct
+      ≡ accepting (endOf (d .cycles) Off (execOf (s .pc) (d .insn) (withIme ime (readyOf (further (d .more) (nextRest s)) s)) m)) m
+  unfolding order
   runs-here ime e ne =
-      rw (← insn-told, undefined-is, ← cycles-told, ← more-told, ne-eqb (d .cycles) 0 ne, e)
-      (ap (λ (a : Act). accepting a m) (settled-first (d .cycles) (d .insn) (readyOf (further (d .more) (nextRest s)) s) m))
+      rw (e, ← insn-told, undefined-is, ← cycles-told, ← more-told, ne-eqb (d .cycles) 0 ne)

@@ -6,7 +6,6 @@ use mathlib.Core.Path.{_≡_, refl}
 use lib.ListN.{length}
 use Rattle.arith.specs.Refusals.{Refusal}
 use Rattle.machine.specs.Memory.{Memory}
-use Rattle.machine.specs.Stack.{pushedOf}
 use Rattle.machine.specs.Interrupts.{dispatchOf, vectoredOf}
 use Rattle.machine.specs.Step.{nextInsn, nextAfter, readyOf, endOf, instructionAct, ruleOf, dueRefusals, stepRefusals, stepUnless, dueStep, stepOf}
 use Rattle.machine.specs.declared.Cpu.{Cpu}
@@ -25,10 +24,10 @@ step-length s m =
 
 module _ (s : Cpu) (m : Memory) (p : s .f % 16 ≡ 0) where
   rule-low : ruleOf s m .cpu .f % 16 ≡ 0
-  unfolding readyOf instructionAct endOf dispatchOf vectoredOf pushedOf
+  unfolding readyOf instructionAct endOf dispatchOf vectoredOf
   rule-low =
       by-rules (λ a. a .cpu .f % 16 ≡ 0) s m
-      record { dispatch = p; idle = p; insn = executed (nextInsn s m) (readyOf (nextAfter s m) s) m .state .low p }
+      record { dispatch = p; idle = p; insn = executed (s .pc) (nextInsn s m) (readyOf (nextAfter s m) s) m .state .low p }
 
   low-of : (rs : List Refusal) → stepUnless rs (ruleOf s m) s m .out .cpu .f % 16 ≡ 0
   low-of = by-outcome (λ w. w .out .cpu .f % 16 ≡ 0) (ruleOf s m) s m (λ _. p) rule-low

@@ -2,7 +2,7 @@
 -- a list of stores, of words and of a push.
 -- Assumes nothing.
 use Prim.Native.Nat.{ℕ, _<_, _≤_}
-use mathlib.Core.List.{List, [], _∷_}
+use mathlib.Core.List.{List, [], _∷_, _++_}
 use mathlib.Core.Logic.{_≢_}
 use mathlib.Core.Path.{_≡_, refl, _∙_}
 use native.Mathlib.Omega.{arith}
@@ -53,6 +53,10 @@ module _ (m : Memory) where
 pub made-length : (xs : List Store) (m : Memory) → length (made xs m) ≡ length m
 made-length [] m = refl
 made-length (x ∷ xs) m = made-length xs _ ∙ stored-length m (x .at) (x .value)
+
+pub made-append : (xs ys : List Store) (m : Memory) → made (xs ++ ys) m ≡ made ys (made xs m)
+made-append [] ys m = refl
+made-append (x ∷ xs) ys m = made-append xs ys _
 
 -- an address that no store of a list touches, and the byte at it
 abbrev pub Spared : ℕ → List Store → Type 0

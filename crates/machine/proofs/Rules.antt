@@ -15,7 +15,7 @@ use Rattle.arith.proofs.Refusals.{by-code}
 use Rattle.machine.specs.Memory.{Memory, memorySize}
 use Rattle.machine.specs.Answers.{With, storeless}
 use Rattle.machine.specs.Modes.{isOn, isHalted, isStopped}
-use Rattle.machine.specs.Interrupts.{pendingOf, lowestOf, dispatchDueOf, dispatchOf}
+use Rattle.machine.specs.Interrupts.{dispatchDueOf, dispatchOf}
 use Rattle.machine.specs.Step.{Act, act, refusing, accepting, dispatches, idles, instructionAct, ruleBy, ruleOf, inputRefusals, stepRefusals, stepUnless, dueStep, stepOf}
 use Rattle.machine.specs.declared.Ime.{Ime}
 use Rattle.machine.specs.declared.Ime.the-variants.{Off, Arming, On}
@@ -32,7 +32,7 @@ by-outcome P a s m refused accepted rs = by-code P (λ _. accepting a m) (λ n. 
 
 -- Q holds where each rule leads
 pub record Rules (Q : Act → Type 0) (s : Cpu) (m : Memory) : Type 0 where
-  pub dispatch : Q (act 5 (dispatchOf (lowestOf (pendingOf m)) s m))
+  pub dispatch : Q (act 5 (dispatchOf s m))
   pub idle : Q (act 1 (storeless s))
   pub insn : Q (instructionAct s m)
 
@@ -51,7 +51,14 @@ pub step-due : (s : Cpu) (m : Memory) → length m ≡ memorySize → s .f % 16 
 unfolding order inputRefusals stepRefusals stepOf
 step-due s m l f = rw (eq-eqb _ _ l, eq-eqb _ _ f)
 
--- a step that is accepted, and is neither a dispatch nor idle, is the instruction at PC
+-- a step that is accepted is a dispatch where one is due; where none is, and it is not idle, it is the instruction at PC
+pub step-dispatch : (s : Cpu) (m : Memory) → dispatches s m ≡ true → stepOf s m .out .code ≡ 0
+    → stepOf s m ≡ accepting (act 5 (dispatchOf s m)) m
+unfolding ruleOf ruleBy stepOf
+step-dispatch s m d =
+    by-outcome (λ w. w .out .code ≡ 0 → w ≡ accepting (act 5 (dispatchOf s m)) m) (ruleOf s m) s m (λ n c. absurd (omega arith)) (λ _. rw d)
+    (stepRefusals s m)
+
 pub step-insn : (s : Cpu) (m : Memory) → dispatches s m ≡ false → idles s m ≡ false → stepOf s m .out .code ≡ 0
     → stepOf s m ≡ accepting (instructionAct s m) m
 unfolding ruleOf ruleBy stepOf

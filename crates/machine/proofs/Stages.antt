@@ -13,7 +13,7 @@ use Rattle.arith.specs.Words.{further}
 use Rattle.machine.specs.Memory.{Memory, memorySize}
 use Rattle.machine.specs.Answers.{storeless}
 use Rattle.machine.specs.Modes.{isOn, isHalted, isStopped}
-use Rattle.machine.specs.Interrupts.{pendingOf, lowestOf, dispatchDueOf, dispatchOf}
+use Rattle.machine.specs.Interrupts.{pendingOf, dispatchDueOf, dispatchOf}
 use Rattle.machine.specs.Step.{act, refusing, accepting, dispatches, idles, pastFirst, nextRest, ruleBy, ruleOf, inputRefusals, dueRefusals, stepRefusals, instructionStep, dueStep, stepOf}
 use Rattle.machine.specs.declared.Ime.the-variants.{Off}
 use Rattle.machine.specs.declared.Mode.the-variants.{Running}
@@ -43,7 +43,7 @@ module _ (s : Cpu) (m : Memory) where
   stage-stopped p = rw p
 
   pub stage-dispatch : isStopped (s .mode) ≡ false → dispatchDueOf (s .ime) (pendingOf m) ≡ true
-      → dueStep s m ≡ accepting (act 5 (dispatchOf (lowestOf (pendingOf m)) s m)) m
+      → dueStep s m ≡ accepting (act 5 (dispatchOf s m)) m
   unfolding order dispatches dueRefusals ruleBy ruleOf
   stage-dispatch p q = rw (p, q)
 

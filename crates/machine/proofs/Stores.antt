@@ -8,11 +8,10 @@ use native.Mathlib.Omega.{arith}
 use lib.ListN.{length}
 use Rattle.arith.specs.Refusals.{codeOf, unlessRefused}
 use Rattle.machine.specs.Memory.{Memory, byteAt, Store, made}
-use Rattle.machine.specs.Stack.{pushedOf}
-use Rattle.machine.specs.Interrupts.{dispatchOf}
 use Rattle.machine.specs.Step.{Act, refusing, accepting, nextInsn, nextAfter, readyOf, endOf, instructionAct, ruleOf, stepRefusals, stepOf}
 use Rattle.machine.specs.declared.Cpu.{Cpu}
 use Rattle.machine.proofs.Bounds.{executed}
+use Rattle.machine.proofs.Dispatch.{dispatch-few}
 use Rattle.machine.proofs.ReadOverWrite.{Spared, made-other}
 use Rattle.machine.proofs.Rules.{by-rules}
 
@@ -41,15 +40,15 @@ module _ (s : Cpu) (m : Memory) where
   pub step-other : (at : ℕ) → Spared at (storesOf s m) → byteAt (stepOf s m .mem) at ≡ byteAt m at
   step-other at h = rw step-made (made-other (storesOf s m) m at h)
 
-  -- a dispatch stores three bytes, an instruction at most two
+  -- a dispatch stores at most three bytes, an instruction at most two
   rule-few : length (ruleOf s m .stores) ≤ 3
-  unfolding dispatchOf pushedOf instructionAct endOf
+  unfolding instructionAct endOf
   rule-few =
       by-rules (λ a. length (a .stores) ≤ 3) s m
       record {
-        dispatch = omega arith;
+        dispatch = dispatch-few s m;
         idle = omega arith;
-        insn = le-trans (executed (nextInsn s m) (readyOf (nextAfter s m) s) m .stores .few) (omega arith);
+        insn = le-trans (executed (s .pc) (nextInsn s m) (readyOf (nextAfter s m) s) m .stores .few) (omega arith);
       }
 
   pub step-few : length (storesOf s m) ≤ 3

@@ -1,8 +1,9 @@
 -- What each instruction does, once its bytes are read: the state has PC at the address after and the mode Running.
--- The entries of the instruction reference under the instructions' names; document 01, "One step" and "Flags".
+-- The entries of the instruction reference under the instructions' names; document 01, "One step" and "Flags"; document 02, M-100,
+-- for HALT.
 -- Assumes nothing.
 use Prim.Native.Nat.{ℕ, _+_, _-_}
-use mathlib.Core.Bool.{Bool, true, false, not, _&&_}
+use mathlib.Core.Bool.{Bool, true, false, not}
 use mathlib.Core.List.{List, [], _∷_}
 use lib.Dec.{eqb}
 use Rattle.arith.specs.Flags.{flagsOf, zOf, cOf}
@@ -20,13 +21,13 @@ use Rattle.insn.specs.declared.Insn.the-variants.{Nop, StoreSp, Stop, Jr, JrIf,
 use Rattle.machine.specs.Memory.{Memory, byteAt, wordAt, Store, store, wordStores}
 use Rattle.machine.specs.Answers.{Storing, storing, storeless}
 use Rattle.machine.specs.State.{withF, withAAndF, withSp, withPc, withIme, withMode, registerOf, withRegister, hlOf, withHl, pairOf, withPair, stackedOf, withStacked, metOf}
-use Rattle.machine.specs.Modes.{isOff, armedOf}
+use Rattle.machine.specs.Modes.{armedOf}
 use Rattle.machine.specs.Stack.{pushedOf, returnedTo, calledOf}
 use Rattle.machine.specs.Operands.{valueOf, heldOf, placedOf, updatedOf, pointedOf, movedOf}
 use Rattle.machine.specs.Interrupts.{pendingOf}
-use Rattle.machine.specs.declared.Ime.the-variants.{Off, On}
-use Rattle.machine.specs.declared.Mode.{Mode}
-use Rattle.machine.specs.declared.Mode.the-variants.{Repeat, Halted, Stopped}
+use Rattle.machine.specs.declared.Ime.{Ime}
+use Rattle.machine.specs.declared.Ime.the-variants.{Off, Arming, On}
+use Rattle.machine.specs.declared.Mode.the-variants.{Running, Repeat, Halted, Stopped}
 use Rattle.machine.specs.declared.Cpu.{Cpu}
 use Rattle.machine.specs.declared.Done.{Done}
 
@@ -88,66 +89,70 @@ complementedOf s = withAAndF (255 - s .a) (flagsOf (zOf (s .f)) true true (cOf (
 unfoldable pub withCarryOf : Bool → Cpu → Cpu
 withCarryOf c s = withF (flagsOf (zOf (s .f)) false false c) s
 
--- HALT: with IME Off and pending not 0, Repeat; in all other cases Halted
-unfoldable pub haltMode : Bool → Mode
-haltMode true = Repeat
-haltMode false = Halted
+-- HALT, by whether a request is pending, and by IME at the start: Off, Repeat; Arming, PC at the HALT's own address, IME On and the
+-- mode Running, so that the handler returns to the HALT; in all other cases Halted
+unfoldable pub haltedBy : Bool → Ime → ℕ → Cpu → Cpu
+haltedBy true Off own s = withMode Repeat s
+haltedBy true Arming own s = withPc own (withIme On (withMode Running s))
+haltedBy true On own s = withMode Halted s
+haltedBy false ime own s = withMode Halted s
 
-unfoldable pub haltedOf : Cpu → Memory → Cpu
-haltedOf s m = withMode (haltMode (isOff (s .ime) && not (eqb (pendingOf m) 0))) s
+unfoldable pub haltedOf : ℕ → Cpu → Memory → Cpu
+haltedOf own s m = haltedBy (not (eqb (pendingOf m) 0)) (s .ime) own s
 
--- every instruction, in the grid's order
-unfoldable pub execOf : Insn → Cpu → Memory → Storing Done
-execOf Nop s m = plainly s
-execOf (StoreSp w) s m = doing (storing s (wordStores w (s .sp)))
-execOf Stop s m = plainly (withMode Stopped s)
-execOf (Jr e) s m = plainly (withPc (offsetOf e (s .pc)) s)
-execOf (JrIf cc e) s m = storeless (takenIf (metOf cc (s .f)) (shapeOf (JrIf cc e) .taken) (withPc (offsetOf e (s .pc)) s) s)
-execOf (LoadPair w rp) s m = plainly (withPair rp w s)
-execOf (AddHl rp) s m = plainly (addedToHlOf rp s)
-execOf (StoreAt p) s m = doing (storedAtOf p s)
-execOf (LoadAt p) s m = plainly (movedOf p (loadedFrom (pointedOf p s) s m))
-execOf (IncPair rp) s m = plainly (withPair rp (further 1 (pairOf rp s)) s)
-execOf (DecPair rp) s m = plainly (withPair rp (back 1 (pairOf rp s)) s)
-execOf (Inc p) s m = doing (updatedOf p (increasedOf (heldOf p s m) (s .f)) s)
-execOf (Dec p) s m = doing (updatedOf p (decreasedOf (heldOf p s m) (s .f)) s)
-execOf (Load p o) s m = doing (placedOf p (valueOf o s m) s)
-execOf (RotateA r) s m = plainly (resultOf (rotationAOf r (s .a) (cOf (s .f))) s)
-execOf Daa s m = plainly (resultOf (decimalOf (s .a) (s .f)) s)
-execOf Cpl s m = plainly (complementedOf s)
-execOf Scf s m = plainly (withCarryOf true s)
-execOf Ccf s m = plainly (withCarryOf (not (cOf (s .f))) s)
-execOf Halt s m = plainly (haltedOf s m)
-execOf (Math op o) s m = plainly (resultOf (aluOf op (s .a) (valueOf o s m) (s .f)) s)
-execOf (RetIf cc) s m = storeless (takenIf (metOf cc (s .f)) (shapeOf (RetIf cc) .taken) (returnedTo (wordAt m (s .sp)) s) s)
-execOf (StoreHigh n) s m = doing (storedTo (highAddress n) s)
-execOf (AddSp e) s m = plainly (addedToSpOf e s)
-execOf (LoadHigh n) s m = plainly (loadedFrom (highAddress n) s m)
-execOf (LoadHlSp e) s m = plainly (hlFromSpOf e s)
-execOf (Pop rp) s m = plainly (withStacked rp (wordAt m (s .sp)) (withSp (further 2 (s .sp)) s))
-execOf Ret s m = plainly (returnedTo (wordAt m (s .sp)) s)
-execOf Reti s m = plainly (withIme On (returnedTo (wordAt m (s .sp)) s))
-execOf JumpHl s m = plainly (withPc (hlOf s) s)
-execOf LoadSpHl s m = plainly (withSp (hlOf s) s)
-execOf (JumpIf cc w) s m = storeless (takenIf (metOf cc (s .f)) (shapeOf (JumpIf cc w) .taken) (withPc w s) s)
-execOf StoreHighC s m = doing (storedTo (highAddress (s .c)) s)
-execOf (StoreTo w) s m = doing (storedTo w s)
-execOf LoadHighC s m = plainly (loadedFrom (highAddress (s .c)) s m)
-execOf (LoadFrom w) s m = plainly (loadedFrom w s m)
-execOf (Jump w) s m = plainly (withPc w s)
-execOf (Rotate r p) s m = doing (updatedOf p (rotationOf r (heldOf p s m) (cOf (s .f))) s)
-execOf (Bit k p) s m = plainly (withF (testedOf k (heldOf p s m) (s .f)) s)
-execOf (Res k p) s m = doing (placedOf p (resetOf k (heldOf p s m)) s)
-execOf (Set k p) s m = doing (placedOf p (setOf k (heldOf p s m)) s)
-execOf Di s m = plainly (withIme Off s)
-execOf Ei s m = plainly (withIme (armedOf (s .ime)) s)
-execOf (CallIf cc w) s m = storing (takenIf (metOf cc (s .f)) (shapeOf (CallIf cc w) .taken) (calledOf w s .out) s) (storesIf (metOf cc (s .f)) (calledOf w s .stores))
-execOf (Push rp) s m = doing (pushedOf (stackedOf rp s) s)
-execOf (Call w) s m = doing (calledOf w s)
-execOf (Rst v) s m = doing (calledOf v s)
-execOf Undefined s m = plainly s
+-- every instruction, in the grid's order. Its first byte was read from the address own, which HALT alone asks for
+module _ (own : ℕ) where
+  unfoldable pub execOf : Insn → Cpu → Memory → Storing Done
+  execOf Nop s m = plainly s
+  execOf (StoreSp w) s m = doing (storing s (wordStores w (s .sp)))
+  execOf Stop s m = plainly (withMode Stopped s)
+  execOf (Jr e) s m = plainly (withPc (offsetOf e (s .pc)) s)
+  execOf (JrIf cc e) s m = storeless (takenIf (metOf cc (s .f)) (shapeOf (JrIf cc e) .taken) (withPc (offsetOf e (s .pc)) s) s)
+  execOf (LoadPair w rp) s m = plainly (withPair rp w s)
+  execOf (AddHl rp) s m = plainly (addedToHlOf rp s)
+  execOf (StoreAt p) s m = doing (storedAtOf p s)
+  execOf (LoadAt p) s m = plainly (movedOf p (loadedFrom (pointedOf p s) s m))
+  execOf (IncPair rp) s m = plainly (withPair rp (further 1 (pairOf rp s)) s)
+  execOf (DecPair rp) s m = plainly (withPair rp (back 1 (pairOf rp s)) s)
+  execOf (Inc p) s m = doing (updatedOf p (increasedOf (heldOf p s m) (s .f)) s)
+  execOf (Dec p) s m = doing (updatedOf p (decreasedOf (heldOf p s m) (s .f)) s)
+  execOf (Load p o) s m = doing (placedOf p (valueOf o s m) s)
+  execOf (RotateA r) s m = plainly (resultOf (rotationAOf r (s .a) (cOf (s .f))) s)
+  execOf Daa s m = plainly (resultOf (decimalOf (s .a) (s .f)) s)
+  execOf Cpl s m = plainly (complementedOf s)
+  execOf Scf s m = plainly (withCarryOf true s)
+  execOf Ccf s m = plainly (withCarryOf (not (cOf (s .f))) s)
+  execOf Halt s m = plainly (haltedOf own s m)
+  execOf (Math op o) s m = plainly (resultOf (aluOf op (s .a) (valueOf o s m) (s .f)) s)
+  execOf (RetIf cc) s m = storeless (takenIf (metOf cc (s .f)) (shapeOf (RetIf cc) .taken) (returnedTo (wordAt m (s .sp)) s) s)
+  execOf (StoreHigh n) s m = doing (storedTo (highAddress n) s)
+  execOf (AddSp e) s m = plainly (addedToSpOf e s)
+  execOf (LoadHigh n) s m = plainly (loadedFrom (highAddress n) s m)
+  execOf (LoadHlSp e) s m = plainly (hlFromSpOf e s)
+  execOf (Pop rp) s m = plainly (withStacked rp (wordAt m (s .sp)) (withSp (further 2 (s .sp)) s))
+  execOf Ret s m = plainly (returnedTo (wordAt m (s .sp)) s)
+  execOf Reti s m = plainly (withIme On (returnedTo (wordAt m (s .sp)) s))
+  execOf JumpHl s m = plainly (withPc (hlOf s) s)
+  execOf LoadSpHl s m = plainly (withSp (hlOf s) s)
+  execOf (JumpIf cc w) s m = storeless (takenIf (metOf cc (s .f)) (shapeOf (JumpIf cc w) .taken) (withPc w s) s)
+  execOf StoreHighC s m = doing (storedTo (highAddress (s .c)) s)
+  execOf (StoreTo w) s m = doing (storedTo w s)
+  execOf LoadHighC s m = plainly (loadedFrom (highAddress (s .c)) s m)
+  execOf (LoadFrom w) s m = plainly (loadedFrom w s m)
+  execOf (Jump w) s m = plainly (withPc w s)
+  execOf (Rotate r p) s m = doing (updatedOf p (rotationOf r (heldOf p s m) (cOf (s .f))) s)
+  execOf (Bit k p) s m = plainly (withF (testedOf k (heldOf p s m) (s .f)) s)
+  execOf (Res k p) s m = doing (placedOf p (resetOf k (heldOf p s m)) s)
+  execOf (Set k p) s m = doing (placedOf p (setOf k (heldOf p s m)) s)
+  execOf Di s m = plainly (withIme Off s)
+  execOf Ei s m = plainly (withIme (armedOf (s .ime)) s)
+  execOf (CallIf cc w) s m = storing (takenIf (metOf cc (s .f)) (shapeOf (CallIf cc w) .taken) (calledOf w s .out) s) (storesIf (metOf cc (s .f)) (calledOf w s .stores))
+  execOf (Push rp) s m = doing (pushedOf (stackedOf rp s) s)
+  execOf (Call w) s m = doing (calledOf w s)
+  execOf (Rst v) s m = doing (calledOf v s)
+  execOf Undefined s m = plainly s
 
 -- opens what the instructions do in a proof
 unfoldable pub acts : Unit {0}
-unfolding registerOf withRegister hlOf withHl pairOf withPair stackedOf withStacked metOf wordAt wordStores pushedOf returnedTo calledOf operandOf valueOf heldOf placedOf updatedOf pointedOf movedOf resultOf addedToHlOf addedToSpOf hlFromSpOf takenIf storesIf storedTo loadedFrom storedAtOf highAddress complementedOf withCarryOf armedOf isOff haltMode haltedOf execOf
+unfolding registerOf withRegister hlOf withHl pairOf withPair stackedOf withStacked metOf wordAt wordStores pushedOf returnedTo calledOf operandOf valueOf heldOf placedOf updatedOf pointedOf movedOf resultOf addedToHlOf addedToSpOf hlFromSpOf takenIf storesIf storedTo loadedFrom storedAtOf highAddress complementedOf withCarryOf armedOf haltedBy haltedOf execOf
 acts = tt

@@ -7,11 +7,6 @@ use Rattle.machine.specs.declared.Ime.the-variants.{Off, Arming, On}
 use Rattle.machine.specs.declared.Mode.{Mode}
 use Rattle.machine.specs.declared.Mode.the-variants.{Running, Repeat, Halted, Stopped}
 
-unfoldable pub isOff : Ime → Bool
-isOff Off = true
-isOff Arming = false
-isOff On = false
-
 unfoldable pub isOn : Ime → Bool
 isOn Off = false
 isOn Arming = false

@@ -3,15 +3,21 @@
 use Prim.Native.Nat.{ℕ}
 use mathlib.Core.List.{[], _∷_}
 use Rattle.arith.specs.Words.{highOf, lowOf, further, back}
-use Rattle.machine.specs.Memory.{store}
+use Rattle.machine.specs.Memory.{Store, store}
 use Rattle.machine.specs.Answers.{Storing, storing}
 use Rattle.machine.specs.State.{withSp, withPc}
 use Rattle.machine.specs.declared.Cpu.{Cpu}
 
--- a word pushed: SP one back, the high byte; SP one back again, the low byte
+-- the two bytes of a word that is pushed: the high byte one below SP, the low byte one below that
+abbrev pub highBelow : ℕ → ℕ → Store
+highBelow sp w = store (back 1 sp) (highOf w)
+
+abbrev pub lowBelow : ℕ → ℕ → Store
+lowBelow sp w = store (back 2 sp) (lowOf w)
+
+-- a word pushed: the high byte, then the low byte, and SP two back
 unfoldable pub pushedOf : ℕ → Cpu → Storing Cpu
-pushedOf w s =
-    storing (withSp (back 2 (s .sp)) s) (store (back 1 (s .sp)) (highOf w) ∷ store (back 2 (s .sp)) (lowOf w) ∷ [])
+pushedOf w s = storing (withSp (back 2 (s .sp)) s) (highBelow (s .sp) w ∷ lowBelow (s .sp) w ∷ [])
 
 -- a return to a word that lies on the stack
 unfoldable pub returnedTo : ℕ → Cpu → Cpu

@@ -4,6 +4,7 @@
 use Prim.Native.Nat.{ℕ, _+_, _-_, _%_}
 use mathlib.Core.Bool.{Bool, true, false, not, _&&_}
 use mathlib.Core.List.{List, [], _∷_, _++_}
+use mathlib.Core.Path.{_≡_}
 use lib.Dec.{eqb}
 use lib.ListN.{length}
 use Rattle.arith.specs.Refusals.{Refusal, _when_, codeOf, unlessRefused}
@@ -15,9 +16,10 @@ use Rattle.machine.specs.Memory.{Memory, memorySize, byteAt, wordAt, Sto
 use Rattle.machine.specs.Answers.{With, keeping, Storing, storeless}
 use Rattle.machine.specs.State.{withPc, withIme, withMode}
 use Rattle.machine.specs.Modes.{isHalted, isStopped, settledIme}
-use Rattle.machine.specs.Interrupts.{pendingOf, lowestOf, dispatchDueOf, dispatchOf}
+use Rattle.machine.specs.Interrupts.{pendingOf, dispatchDueOf, dispatchOf}
 use Rattle.machine.specs.Execute.{execOf}
 use Rattle.machine.specs.declared.Ime.{Ime}
+use Rattle.machine.specs.declared.Ime.the-variants.{Off}
 use Rattle.machine.specs.declared.Mode.{Mode}
 use Rattle.machine.specs.declared.Mode.the-variants.{Running, Repeat, Halted, Stopped}
 use Rattle.machine.specs.declared.Cpu.{Cpu}
@@ -84,11 +86,18 @@ endOf k start w =
     }
 
 unfoldable pub instructionAct : Cpu → Memory → Act
-instructionAct s m = endOf (shapeOf (nextInsn s m) .cycles) (s .ime) (execOf (nextInsn s m) (readyOf (nextAfter s m) s) m)
+instructionAct s m =
+    endOf (shapeOf (nextInsn s m) .cycles) (s .ime) (execOf (s .pc) (nextInsn s m) (readyOf (nextAfter s m) s) m)
 
--- the rules: a dispatch of the lowest request in 5 cycles; else 1 cycle in which nothing changes; else the instruction
+-- begun with the IME u, and with nothing settled at its end, it comes to the same: what the code rests on
+abbrev pub SettledBy : Ime → Cpu → Memory → Type 0
+SettledBy u s m =
+    instructionAct s m
+    ≡ endOf (shapeOf (nextInsn s m) .cycles) Off (execOf (s .pc) (nextInsn s m) (withIme u (readyOf (nextAfter s m) s)) m)
+
+-- the rules: a dispatch in 5 cycles; else 1 cycle in which nothing changes; else the instruction
 unfoldable pub ruleBy : Bool → Bool → Cpu → Memory → Act
-ruleBy true idle s m = act 5 (dispatchOf (lowestOf (pendingOf m)) s m)
+ruleBy true idle s m = act 5 (dispatchOf s m)
 ruleBy false true s m = act 1 (storeless s)
 ruleBy false false s m = instructionAct s m
 

@@ -22,9 +22,10 @@ impl Cpu {
         }
     }
 
-    pub(crate) fn execute(self, i: Insn, mem: &mut [u8]) -> Done
+    // The instruction's first byte was read from the address own.
+    pub(crate) fn execute(self, own: u16, i: Insn, mem: &mut [u8]) -> Done
         requires { ⌜ length (now mem) ≡ memorySize ⌝ }
-        ensures { λ r. ⌜ Gives (making (execOf i self (now (mem .entry))) (now (mem .entry))) r (now (mem .exit)) ⌝ }
+        ensures { λ r. ⌜ Gives (making (execOf own i self (now (mem .entry))) (now (mem .entry))) r (now (mem .exit)) ⌝ }
     {
         match i {
             Insn::Nop => self.done(),
@@ -46,7 +47,7 @@ impl Cpu {
             Insn::Cpl => self.complement().done(),
             Insn::Scf => self.set_carry().done(),
             Insn::Ccf => self.flip_carry().done(),
-            Insn::Halt => self.halt(&*mem).done(),
+            Insn::Halt => self.halt(own, &*mem).done(),
             Insn::Math(op, o) => self.math(op, o, &*mem).done(),
             Insn::RetIf(cc) => self.ret_if(cc, &*mem),
             Insn::StoreHigh(n) => self.store_a(loads::high(n), mem).done(),

@@ -6,8 +6,8 @@ use crate::memory;
 ghost use mathlib.Core.Path.{_≡_};
 ghost use lib.ListN.{length};
 ghost use Rattle.machine.specs.Memory.{memorySize};
-ghost use Rattle.machine.specs.Execute.{haltMode, haltedOf};
-ghost use Rattle.machine.specs.Modes.{isOff, isOn, isHalted, isStopped, armedOf, settledIme};
+ghost use Rattle.machine.specs.Execute.{haltedOf};
+ghost use Rattle.machine.specs.Modes.{isOn, isHalted, isStopped, armedOf, settledIme};
 ghost use Rattle.machine.specs.State.{withIme};
 
 // EI: Off becomes Arming.
@@ -18,16 +18,6 @@ fn armed(ime: Ime) -> Ime
         Ime::Off => Ime::Arming,
         Ime::Arming => Ime::Arming,
         Ime::On => Ime::On,
-    }
-}
-
-fn is_off(ime: Ime) -> bool
-    ensures { λ r. ⌜ r ≡ isOff ime ⌝ }
-{
-    match ime {
-        Ime::Off => true,
-        Ime::Arming => false,
-        Ime::On => false,
     }
 }
 
@@ -74,12 +64,6 @@ pub(crate) fn settled(ime: Ime) -> Ime
     }
 }
 
-fn halt_mode(again: bool) -> Mode
-    ensures { λ r. ⌜ r ≡ haltMode again ⌝ }
-{
-    if again { Mode::Repeat } else { Mode::Halted }
-}
-
 impl Cpu {
     pub(crate) fn arm(self) -> Cpu
         ensures { λ r. ⌜ r ≡ withIme (armedOf (self .ime)) self ⌝ }
@@ -88,13 +72,20 @@ impl Cpu {
         self.with_ime(armed(ime))
     }
 
-    // With IME Off and a request pending the byte after HALT is read twice.
-    pub(crate) fn halt(self, mem: &[u8]) -> Cpu
+    // HALT, read from the address own. With a request pending it does not halt: with IME Off the byte after it is read twice, and
+    // right after EI the handler returns to it.
+    pub(crate) fn halt(self, own: u16, mem: &[u8]) -> Cpu
         requires { ⌜ length (now mem) ≡ memorySize ⌝ }
-        ensures { λ r. ⌜ r ≡ haltedOf self (now (mem .entry)) ⌝ }
+        ensures { λ r. ⌜ r ≡ haltedOf own self (now (mem .entry)) ⌝ }
     {
+        if memory::pending(mem) == 0 {
+            return self.with_mode(Mode::Halted);
+        }
         let ime = self.ime;
-        let again = is_off(ime) & (memory::pending(mem) != 0);
-        self.with_mode(halt_mode(again))
+        match ime {
+            Ime::Off => self.with_mode(Mode::Repeat),
+            Ime::Arming => self.ready(own, Ime::On),
+            Ime::On => self.with_mode(Mode::Halted),
+        }
     }
 }

@@ -7,21 +7,36 @@ ghost use mathlib.Core.Path.{_≡_};
 ghost use lib.ListN.{length};
 ghost use Rattle.arith.specs.Words.{further};
 ghost use Rattle.machine.specs.Answers.{Gives, making};
-ghost use Rattle.machine.specs.Memory.{memorySize, wordAt};
-ghost use Rattle.machine.specs.Stack.{pushedOf, returnedTo, calledOf};
+ghost use mathlib.Core.List.{[], _∷_};
+ghost use Rattle.machine.specs.Memory.{memorySize, wordAt, made};
+ghost use Rattle.machine.specs.Stack.{highBelow, lowBelow, pushedOf, returnedTo, calledOf};
 ghost use Rattle.machine.specs.State.{withSp, stackedOf, withStacked};
 
+// The high byte of a word that is pushed goes one below SP.
+pub(crate) fn push_high(mem: &mut [u8], sp: u16, w: u16)
+    requires { ⌜ length (now mem) ≡ memorySize ⌝ }
+    ensures { λ _. ⌜ now (mem .exit) ≡ made (highBelow sp w ∷ []) (now (mem .entry)) ⌝ }
+{
+    memory::store(mem, words::back(1, sp), words::high(w));
+}
+
+// And the low byte one below that.
+pub(crate) fn push_low(mem: &mut [u8], sp: u16, w: u16)
+    requires { ⌜ length (now mem) ≡ memorySize ⌝ }
+    ensures { λ _. ⌜ now (mem .exit) ≡ made (lowBelow sp w ∷ []) (now (mem .entry)) ⌝ }
+{
+    memory::store(mem, words::back(2, sp), words::low(w));
+}
+
 impl Cpu {
-    // The high byte goes one below SP, the low byte one below that.
     pub(crate) fn push(mut self, w: u16, mem: &mut [u8]) -> Cpu
         requires { ⌜ length (now mem) ≡ memorySize ⌝ }
         ensures { λ r. ⌜ Gives (making (pushedOf w self) (now (mem .entry))) r (now (mem .exit)) ⌝ }
     {
         let sp = self.sp;
-        let below = words::back(2, sp);
-        memory::store(mem, words::back(1, sp), words::high(w));
-        memory::store(mem, below, words::low(w));
-        self.sp = below;
+        push_high(mem, sp, w);
+        push_low(mem, sp, w);
+        self.sp = words::back(2, sp);
         Cpu { ..self }
     }
 

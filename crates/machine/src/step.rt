@@ -15,11 +15,14 @@ ghost use Prim.Native.Nat.{_+_, _≤_};
 ghost use lib.ListN.{length};
 ghost use Rattle.machine.specs.Memory.{memorySize};
 ghost use Rattle.machine.specs.Answers.{Gives};
-ghost use Rattle.machine.specs.Modes.{settledIme};
+ghost use Rattle.machine.specs.Interrupts.{pendingOf};
 ghost use Rattle.machine.specs.State.{withIme};
-ghost use Rattle.machine.specs.Step.{pastFirst, nextRest, readyOf, instructionStep, dueStep};
+ghost use Rattle.machine.specs.Step.{pastFirst, nextRest, readyOf, SettledBy, instructionStep, dueStep};
 ghost use Rattle.machine.specs.declared.Ime.the-variants.{Off};
 ghost use Rattle.machine.specs.declared.Mode.the-variants.{Running};
+
+// HALT's opcode.
+const HALT: u8 = 0x76;
 
 // Where the bytes after the first lie: in Repeat the first does not move PC.
 fn past_first(mode: Mode, pc: u16) -> u16
@@ -74,7 +77,8 @@ impl Cpu {
         }
     }
 
-    fn ready(self, after: u16, ime: Ime) -> Cpu
+    // At the start of an instruction: PC at the address after, the mode Running.
+    pub(crate) fn ready(self, after: u16, ime: Ime) -> Cpu
         ensures { λ r. ⌜ r ≡ withIme ime (readyOf after self) ⌝ }
     {
         Cpu {
@@ -85,12 +89,26 @@ impl Cpu {
         }
     }
 
-    // Rule 3: the instruction at PC, its other bytes from rest on, or the refusal of an undefined one. IME is what an instruction
-    // that leaves it alone ends with: Arming has become On.
+    // IME for the instruction at PC to start with, such that nothing is left to settle at its end: Arming has become On before it. But
+    // HALT with a request pending looks at Arming, and settles it.
+    fn settled_before(self, p: u8, mem: &[u8]) -> Ime
+        requires { ⌜ length (now mem) ≡ memorySize ⌝ }
+        requires { ⌜ p ≡ pendingOf (now mem) ⌝ }
+        ensures { λ r. ⌜ SettledBy r self (now (mem .entry)) ⌝ }
+    {
+        let ime = self.ime;
+        if (p != 0) & (memory::read(mem, self.pc) == HALT) {
+            return ime;
+        }
+        modes::settled(ime)
+    }
+
+    // Rule 3: the instruction at PC, its other bytes from rest on, or the refusal of an undefined one. IME is such that nothing is left
+    // to settle at its end.
     fn instruction_step(self, rest: u16, ime: Ime, mem: &mut [u8]) -> Stepped
         requires { ⌜ length (now mem) ≡ memorySize ⌝ }
         requires { ⌜ rest ≡ nextRest self ⌝ }
-        requires { ⌜ ime ≡ settledIme (self .ime) (self .ime) ⌝ }
+        requires { ⌜ SettledBy ime self (now mem) ⌝ }
         ensures { λ r. ⌜ Gives (instructionStep self (now (mem .entry))) r (now (mem .exit)) ⌝ }
     {
         let op = memory::read(&*mem, self.pc);
@@ -105,7 +123,7 @@ impl Cpu {
         accepted(
             cycles,
             self.ready(words::further(d.more, rest), ime)
-                .execute(i, mem),
+                .execute(self.pc, i, mem),
         )
     }
 
@@ -133,11 +151,11 @@ impl Cpu {
                 return Stepped {
                     code: 0,
                     cycles: 5,
-                    cpu: self.dispatch(interrupts::lowest(p), mem),
+                    cpu: self.dispatch(mem),
                 };
             }
             rest = past_first(mode, self.pc);
-            ime = modes::settled(ime);
+            ime = self.settled_before(p, &*mem);
         }
         self.instruction_step(rest, ime, mem)
     }

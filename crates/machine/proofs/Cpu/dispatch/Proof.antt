@@ -1,9 +1,25 @@
--- `dispatch` meets its contract.
-use Rattle.machine.proofs.Gives.{exactly, needs}
+-- `dispatch` meets its contract: the stores of the choice stand between the two of PC.
 use Rattle.machine.specs.Interrupts.{dispatchOf}
+use Rattle.machine.proofs.Gives.{exactly, needs}
+use Rattle.machine.proofs.ReadOverWrite.{made-append}
 use Rattle.machine.proofs.Cpu.dispatch.Statement.{statement}
 use Rattle.machine.proofs.Cpu.dispatch.Tie as tie
 
-pub dispatch-spec : {M : Type 1} → statement M
+returns : tie.Need-returns
 unfolding dispatchOf
-dispatch-spec = tie.close (tie.spec (search needs) (search needs) (search needs) (search needs) (search needs) (search needs) (λ c. simp (c .before .before .push .ensures .answers, c .before .before .before .before .vector .ensures, c .before .before .before .before .before .before .before .store .ensures, c .before .before .before .before .before .before .before .before .reset .ensures, c .before .before .before .before .before .before .before .before .before .before .read .ensures, c .before .before .push .ensures .leaves) exactly))
+returns c =
+    let low = c .before .before .before in
+    let chosen = low .before .before .before .before in
+    let high = chosen .before .before .before .before in
+    rw (
+      c .vector .ensures,
+      made-append,
+      low .push-low .ensures,
+      chosen .choose .ensures .answers,
+      chosen .choose .ensures .leaves,
+      high .push-high .ensures,
+    )
+    exactly
+
+pub dispatch-spec : {M : Type 1} → statement M
+dispatch-spec = tie.close (tie.spec (search needs) (search needs) (search needs) (search needs) (search needs) returns)

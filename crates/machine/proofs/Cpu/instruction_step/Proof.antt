@@ -49,7 +49,7 @@ accepted-requires c κs =
     omega (
       arith,
       ap (λ (d : Done). d .extra) (x .execute .ensures .answers),
-      insn-most (f .decode .result .insn) (x .before .before .ready .result) (a .mem .now),
+      insn-most (a .self .pc) (f .decode .result .insn) (x .before .before .ready .result) (a .mem .now),
       cycles-told (a .self) (a .mem .now) (f .decode .result) (fetched f),
     )
 

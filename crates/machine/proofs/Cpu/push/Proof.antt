@@ -8,14 +8,11 @@ returns : tie.Need-returns
 unfolding pushedOf
 returns c =
     simp (
-      c .before .before .store2 .ensures,
-      c .before .before .before .low .ensures,
-      c .before .before .before .before .before .before .before .store .ensures,
-      c .before .before .before .before .before .before .before .before .high .ensures,
-      c .before .before .before .before .before .before .before .before .before .back2 .ensures,
-      c .before .before .before .before .before .before .before .before .before .before .before .back .ensures,
+      c .back .ensures,
+      c .before .before .before .push-low .ensures,
+      c .before .before .before .before .before .before .before .push-high .ensures,
     )
     exactly
 
 pub push-spec : {M : Type 1} → statement M
-push-spec = tie.close (tie.spec (search needs) (search needs) (search needs) (search needs) (search needs) (search needs) (search needs) returns)
+push-spec = tie.close (tie.spec (search needs) (search needs) (search needs) (search needs) returns)

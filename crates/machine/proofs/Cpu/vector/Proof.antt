@@ -1,5 +1,4 @@
 -- `vector` meets its contract.
-use mathlib.Core.Path.{refl}
 use borrow.Author.Needs.{needs}
 use Rattle.machine.specs.Interrupts.{vectoredOf}
 use Rattle.machine.proofs.Cpu.vector.Statement.{statement}
@@ -7,4 +6,4 @@ use Rattle.machine.proofs.Cpu.vector.Tie as tie
 
 pub vector-spec : {M : Type 1} → statement M
 unfolding vectoredOf
-vector-spec = tie.close (tie.spec (search needs) (search needs) (λ c. refl))
+vector-spec = tie.close (tie.spec (search needs) (λ c. simp (c .back .ensures)))
