@@ -3,6 +3,11 @@ from reading.changes import Change
 
 STEP = "machine/specs/Step.antt"
 RUN = "machine/src/run.rt"
+MODES = "machine/src/modes.rt"
+REQUESTS = "machine/specs/Interrupts.antt"
+LOW = "(lowBelow (s .sp) (s .pc) ∷ [])"
+HALTS = "machine/specs/Execute.antt"
+RETURNED = "withPc own (withIme On (withMode Running s))"
 
 EASY = [
     Change(
@@ -33,20 +38,34 @@ EASY = [
         (STEP, "{further}", "{further, back}"),
         (
             STEP,
-            "instructionAct s m = endOf (shapeOf (nextInsn s m) .cycles) (s .ime) (execOf (nextInsn s m) (readyOf (nextAfter s m) s) m)",
-            "instructionAct s m = movedBack (s .mode) (endOf (shapeOf (nextInsn s m) .cycles) (s .ime) (execOf (nextInsn s m)"
+            "instructionAct s m =\n"
+            "    endOf (shapeOf (nextInsn s m) .cycles) (s .ime) (execOf (s .pc) (nextInsn s m) (readyOf (nextAfter s m) s) m)",
+            "instructionAct s m = movedBack (s .mode) (endOf (shapeOf (nextInsn s m) .cycles) (s .ime) (execOf (s .pc) (nextInsn s m)"
             " (readyOf (further (shapeOf (nextInsn s m) .bytes) (s .pc)) s) m))",
         ),
     ),
+    Change("the vector is chosen before the push", (REQUESTS, "chosenOf (made (high ∷ []) m)", "chosenOf m")),
     Change(
-        "IF is cleared after the push",
-        ("machine/specs/Interrupts.antt", "use mathlib.Core.List.{_∷_}", "use mathlib.Core.List.{[], _∷_, _++_}"),
-        (
-            "machine/specs/Interrupts.antt",
-            "(store 0xFF0F (resetOf k (byteAt m 0xFF0F)) ∷ pushed .stores)",
-            "(pushed .stores ++ (store 0xFF0F (resetOf k (byteAt m 0xFF0F)) ∷ []))",
-        ),
+        "IF is cleared before the high byte is stored",
+        (REQUESTS, "chosenOf (made (high ∷ []) m)", "chosenOf m"),
+        (REQUESTS, f"(high ∷ (chosen .stores ++ {LOW}))", "(chosen .stores ++ (high ∷ lowBelow (s .sp) (s .pc) ∷ []))"),
     ),
+    Change(
+        "IF is cleared after the low byte is stored",
+        (REQUESTS, f"(high ∷ (chosen .stores ++ {LOW}))", "(high ∷ (lowBelow (s .sp) (s .pc) ∷ chosen .stores))"),
+    ),
+    Change("PC is $40 where nothing is pending", (REQUESTS, "chosenIf false k m = storeless 0", "chosenIf false k m = storeless 0x40")),
+    Change("a bit is cleared where nothing is pending", ("machine/src/interrupts.rt", "if p == 0 {", "if p == 32 {")),
+    Change(
+        "IME is left On by a cancelled dispatch",
+        (REQUESTS, "-- Assumes nothing.", "use lib.ListN.{getD}"),
+        (REQUESTS, "the-variants.{Off}", "the-variants.{Off, On}"),
+        (REQUESTS, "(withIme Off (withMode Running s))", "(withIme (getD (On ∷ []) to Off) (withMode Running s))"),
+    ),
+    Change("HALT under Arming halts", (HALTS, f"Arming own s = {RETURNED}", "Arming own s = withMode Halted s")),
+    Change("HALT under Arming goes on after itself", (MODES, "self.ready(own, Ime::On)", "self.ready(self.pc, Ime::On)")),
+    Change("HALT under Arming leaves it so", (MODES, "self.ready(own, Ime::On)", "self.ready(own, Ime::Arming)")),
+    Change("HALT's address is counted back", (HALTS, RETURNED, RETURNED.replace("own", "(back 1 (s .pc))"))),
 ]
 
 INSTRUCTIONS = [
@@ -85,8 +104,8 @@ INSTRUCTIONS = [
         "PUSH stores the low byte first",
         (
             "machine/specs/Stack.antt",
-            "(store (back 1 (s .sp)) (highOf w) ∷ store (back 2 (s .sp)) (lowOf w) ∷ [])",
-            "(store (back 1 (s .sp)) (lowOf w) ∷ store (back 2 (s .sp)) (highOf w) ∷ [])",
+            "(highBelow (s .sp) w ∷ lowBelow (s .sp) w ∷ [])",
+            "(lowBelow (s .sp) w ∷ highBelow (s .sp) w ∷ [])",
         ),
     ),
     Change(
