@@ -54,10 +54,10 @@
  * 10,000 times the first number, 100 times the second, and the third.
  */
 #define TRNADULEK_VERSION_MAJOR 0
-#define TRNADULEK_VERSION_MINOR 2
-#define TRNADULEK_VERSION_PATCH 1
-#define TRNADULEK_VERSION_NUMBER 201u
-#define TRNADULEK_VERSION_STRING "0.2.1"
+#define TRNADULEK_VERSION_MINOR 3
+#define TRNADULEK_VERSION_PATCH 0
+#define TRNADULEK_VERSION_NUMBER 300u
+#define TRNADULEK_VERSION_STRING "0.3.0"
 
 /* The sizes. trnadulek_size answers them too. */
 #define TRNADULEK_HEAD_SIZE 23u
