@@ -15,6 +15,6 @@ sizes = headSize ∷ blockSize ∷ memorySize ∷ imageSize ∷ largestBudget �
 unfoldable pub sizeOf : ℕ → ℕ
 sizeOf which = getD sizes which 0
 
--- the version of this library, 0.2.1: 10,000 times the first number, 100 times the second, and the third
+-- the version of this library, 0.3.0: 10,000 times the first number, 100 times the second, and the third
 abbrev pub libraryVersion : ℕ
-libraryVersion = 201
+libraryVersion = 300

@@ -165,7 +165,7 @@ pub extern "C" fn trnadulek_size(which: u32) -> u32
 pub extern "C" fn trnadulek_version() -> u32
     ensures { λ r. ⌜ r ≡ libraryVersion ⌝ }
 {
-    201
+    300
 }
 
 // The words for a refusal number, written if there is room for all of them. The answer is how many bytes they have.

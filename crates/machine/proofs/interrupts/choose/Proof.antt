@@ -1,5 +1,5 @@
 -- `choose` meets its contract.
-use borrow.Author.Tests.{eq-eqb, ne-eqb}
+use borrow.Author.Tests.{ne-eqb}
 use Rattle.machine.specs.Interrupts.{chosenIf, chosenOf}
 use Rattle.machine.proofs.Gives.{exactly, needs}
 use Rattle.machine.proofs.interrupts.choose.Statement.{statement}
