@@ -1,9 +1,9 @@
 -- HALT: with which IME the code begins it, and its outcomes, exactly when each. Document 02, M-100.
 -- Assumes nothing.
-use mathlib.Core.Bool.{Bool, true, false, not}
+use mathlib.Core.Bool.{Bool, true, false, not, _&&_}
 use mathlib.Core.Logic.{_≢_}
 use mathlib.Core.Path.{_≡_, refl, sym, _∙_}
-use borrow.Author.Tests.{eqb-true, eqb-false, ne-eqb, not-true, not-false}
+use borrow.Author.Tests.{eqb-true, eqb-false, eq-eqb, ne-eqb, not-true, not-false}
 use lib.Dec.{eqb}
 use Rattle.insn.specs.Shapes.{shapeOf}
 use Rattle.insn.specs.declared.Insn.{Insn}
@@ -23,18 +23,28 @@ use Rattle.machine.specs.declared.Cpu.{Cpu}
 use Rattle.machine.proofs.Arming.{being, settled-first, looked-first}
 use Rattle.machine.proofs.Rules.{bool-apart, dispatch-is}
 
--- the IME that the code begins the instruction at PC with: settled, where nothing is pending and where that is no HALT; and as it is
+both : (a b : Bool) → (a && b) ≡ true → (a ≡ true) × (b ≡ true)
+both true b e = (refl, e)
+both false b e = absurd (bool-apart (sym e))
+
+-- the code's test: a request is pending and the byte at PC is HALT's. Where it holds IME stays as it is, and else it is settled
 module _ (s : Cpu) (m : Memory) where
-  pub settled-idle : pendingOf m ≡ 0 → SettledBy (settledIme (s .ime) (s .ime)) s m
-  settled-idle e = settled-first s m (λ _ _. e)
+  abbrev pub Looks : Bool → Type 0
+  Looks b = (not (eqb (pendingOf m) 0) && eqb (byteAt m (s .pc)) 0x76) ≡ b
 
-  pub settled-other : byteAt m (s .pc) ≢ 0x76 → SettledBy (settledIme (s .ime) (s .ime)) s m
+  pub looks-first : Looks true → SettledBy (s .ime) s m
   unfolding nextInsn
-  settled-other d = settled-first s m (λ e _. absurd (d (halt-only _ _ _ e)))
+  looks-first h =
+      let b = both _ _ h in
+      looked-first s m (rw (eqb-true (byteAt m (s .pc)) 0x76 (b .1)) (halt-byte _ _)) (eqb-false _ _ (not-true _ (b .0)))
 
-  pub looked-at : byteAt m (s .pc) ≡ 0x76 → pendingOf m ≢ 0 → SettledBy (s .ime) s m
+  pub settles-first : Looks false → SettledBy (settledIme (s .ime) (s .ime)) s m
   unfolding nextInsn
-  looked-at e n = looked-first s m (rw e (halt-byte _ _)) n
+  settles-first h = settled-first s m (λ e _. go (halt-only _ _ _ e) (eqb (pendingOf m) 0) refl)
+    where
+      go : byteAt m (s .pc) ≡ 0x76 → (b : Bool) → eqb (pendingOf m) 0 ≡ b → pendingOf m ≡ 0
+      go o true p = eqb-true (pendingOf m) 0 p
+      go o false p = absurd (bool-apart (rw (p, eq-eqb (byteAt m (s .pc)) 0x76 o) at h))
 
 -- the outcomes of a step with HALT at PC, each with its condition, of which no two hold together
 pub data Outcome (s : Cpu) (m : Memory) : Act → Type 0 where

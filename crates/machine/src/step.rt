@@ -97,13 +97,10 @@ impl Cpu {
         ensures { λ r. ⌜ SettledBy r self (now (mem .entry)) ⌝ }
     {
         let ime = self.ime;
-        if p == 0 {
-            return modes::settled(ime);
+        if (p != 0) & (memory::read(mem, self.pc) == HALT) {
+            return ime;
         }
-        if memory::read(mem, self.pc) != HALT {
-            return modes::settled(ime);
-        }
-        ime
+        modes::settled(ime)
     }
 
     // Rule 3: the instruction at PC, its other bytes from rest on, or the refusal of an undefined one. IME is such that nothing is left
