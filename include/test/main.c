@@ -10,6 +10,7 @@ int main(void)
     test_questions();
     test_cases();
     test_steps();
+    test_interrupts();
     test_runs();
     test_images();
     test_saved();

@@ -5,29 +5,13 @@
 
 #include <string.h>
 
-static struct guarded image_of(const struct unit *unit)
-{
-    struct guarded image = guarded_bytes(TRNADULEK_IMAGE_SIZE, 0xA5);
-    check_number("an image is saved", TRNADULEK_DONE,
-                 trnadulek_save_image(unit->state.bytes, unit->memory.bytes, unit->memory.count, image.bytes,
-                                      image.count));
-    return image;
-}
-
-static struct ran run_image(struct guarded *image, size_t length, uint32_t budget)
-{
-    struct ran ran = {0xA5, 0xA5A5A5A5, 0x5A5A5A5A};
-    ran.code = trnadulek_run_image(image->bytes, length, budget, &ran.spent, &ran.steps);
-    return ran;
-}
-
 /* The image after a run is the one that a save of the same run's state and memory writes. */
 static void same_as_saved(const char *what, struct unit *unit, uint32_t budget)
 {
-    struct guarded image = image_of(unit);
-    struct ran ran = run_image(&image, image.count, budget);
+    struct guarded image = unit_image(unit);
+    struct ran ran = image_run(&image, image.count, budget);
     struct ran apart = unit_run(unit, budget);
-    struct guarded saved = image_of(unit);
+    struct guarded saved = unit_image(unit);
     check_ran(what, ran, apart.code, apart.spent, apart.steps);
     check_bytes(what, saved.bytes, image.bytes, image.count);
     guarded_release(what, &image);
@@ -37,10 +21,9 @@ static void same_as_saved(const char *what, struct unit *unit, uint32_t budget)
 static void worked_example(void)
 {
     struct unit unit = unit_adding();
-    struct guarded image = image_of(&unit);
-    check_ran("an image", run_image(&image, image.count, 30), TRNADULEK_DONE, 30, 16);
-    check_number("an image", TRNADULEK_DONE, trnadulek_open_image(image.bytes, image.count, unit.state.bytes));
-    memcpy(unit.memory.bytes, image.bytes + TRNADULEK_HEAD_SIZE, unit.memory.count);
+    struct guarded image = unit_image(&unit);
+    check_ran("an image", image_run(&image, image.count, 30), TRNADULEK_DONE, 30, 16);
+    unit_open(&unit, &image);
     unit_check_added("an image", &unit);
     guarded_release("beside an image", &image);
     unit_release(&unit);
@@ -61,14 +44,14 @@ static void stopped_game_does_not_tear(void)
     int time;
     unit_set(&unit, &start);
     unit_put(&unit, 0x0100, game, sizeof game);
-    image = image_of(&unit);
+    image = unit_image(&unit);
     unit.memory.bytes[0xC000] = 2;
-    check_ran("the game stops", run_image(&image, image.count, 17556), TRNADULEK_STOPPED, 10, 4);
+    check_ran("the game stops", image_run(&image, image.count, 17556), TRNADULEK_STOPPED, 10, 4);
     for (time = 0; time < 3; time++) {
         check_number("the game is whole", TRNADULEK_DONE, trnadulek_open_cpu(image.bytes, image.count, &got));
         check_cpu("the game stays at the STOP's end", &stopped, &got);
         check_bytes("the score stays 2", unit.memory.bytes, image.bytes + TRNADULEK_HEAD_SIZE, unit.memory.count);
-        check_ran("the game stays stopped", run_image(&image, image.count, 17556), TRNADULEK_STOPPED, 0, 0);
+        check_ran("the game stays stopped", image_run(&image, image.count, 17556), TRNADULEK_STOPPED, 0, 0);
     }
     guarded_release("beside a game", &image);
     unit_release(&unit);
@@ -97,7 +80,7 @@ static void refused(const char *what, uint8_t code, struct guarded *image, size_
 {
     struct guarded before = guarded_bytes(image->count, 0);
     memcpy(before.bytes, image->bytes, image->count);
-    check_ran(what, run_image(image, length, budget), code, 0, 0);
+    check_ran(what, image_run(image, length, budget), code, 0, 0);
     check_bytes(what, before.bytes, image->bytes, image->count);
     guarded_release(what, &before);
 }

@@ -81,6 +81,29 @@ struct ran unit_run(struct unit *unit, uint32_t budget)
     return ran;
 }
 
+struct guarded unit_image(const struct unit *unit)
+{
+    struct guarded image = guarded_bytes(TRNADULEK_IMAGE_SIZE, 0xA5);
+    check_number("an image is saved", TRNADULEK_DONE,
+                 trnadulek_save_image(unit->state.bytes, unit->memory.bytes, unit->memory.count, image.bytes,
+                                      image.count));
+    return image;
+}
+
+void unit_open(struct unit *unit, const struct guarded *image)
+{
+    check_number("an image is opened", TRNADULEK_DONE,
+                 trnadulek_open_image(image->bytes, image->count, unit->state.bytes));
+    memcpy(unit->memory.bytes, image->bytes + TRNADULEK_HEAD_SIZE, unit->memory.count);
+}
+
+struct ran image_run(struct guarded *image, size_t length, uint32_t budget)
+{
+    struct ran ran = {0xA5, 0xA5A5A5A5, 0x5A5A5A5A};
+    ran.code = trnadulek_run_image(image->bytes, length, budget, &ran.spent, &ran.steps);
+    return ran;
+}
+
 void unit_remember(struct unit *unit)
 {
     memcpy(unit->old_state.bytes, unit->state.bytes, unit->state.count);

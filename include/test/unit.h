@@ -38,6 +38,11 @@ void unit_check_added(const char *what, struct unit *unit);
 uint8_t unit_step(struct unit *unit, uint8_t *cycles);
 struct ran unit_run(struct unit *unit, uint32_t budget);
 
+/* Saves state and memory as an image, opens them from one again, and runs an image where it lies. */
+struct guarded unit_image(const struct unit *unit);
+void unit_open(struct unit *unit, const struct guarded *image);
+struct ran image_run(struct guarded *image, size_t length, uint32_t budget);
+
 /* Remembers state and memory, and checks that they are as remembered. */
 void unit_remember(struct unit *unit);
 void unit_check_unchanged(const char *what, const struct unit *unit);

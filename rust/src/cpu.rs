@@ -46,7 +46,7 @@ pub enum Ime {
     Off,
     /// On after the next instruction, unless that is DI.
     Arming,
-    /// A pending request is served by the next step.
+    /// Where a request is pending, the next step is a dispatch.
     On,
 }
 

@@ -2,17 +2,11 @@
 
 mod common;
 
-use common::{memory, sample, sample_image, sample_memory};
-use trnadulek::{open, open_mut, run, run_image, save_image, step, Cpu, Ended, Mode, Ran, Refusal};
-use trnadulek::{HEAD_SIZE, IMAGE_SIZE, LARGEST_BUDGET};
+use common::{image_of, memory, sample, sample_image, sample_memory};
+use trnadulek::{open, open_mut, run, run_image, step, Cpu, Ended, Mode, Ran, Refusal};
+use trnadulek::{HEAD_SIZE, LARGEST_BUDGET};
 
 const FRAME: u32 = 17_556;
-
-fn image_of(cpu: Cpu, memory: &[u8]) -> Vec<u8> {
-    let mut image = vec![0; IMAGE_SIZE];
-    save_image(cpu, memory, &mut image).unwrap();
-    image
-}
 
 /// LD HL,$C000; INC [HL]; INC [HL]; STOP: a game that scores 2 and stops.
 fn game() -> Vec<u8> {

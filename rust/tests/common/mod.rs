@@ -1,7 +1,7 @@
 //! What the tests share; each uses a part of it.
 #![allow(dead_code)]
 
-use trnadulek::{Cpu, Ime, Mode, HEAD_SIZE, MEMORY_SIZE};
+use trnadulek::{save_image, Cpu, Ime, Mode, HEAD_SIZE, IMAGE_SIZE, MEMORY_SIZE};
 
 /// A memory of zeros with some bytes put into it.
 pub fn memory(parts: &[(usize, &[u8])]) -> Vec<u8> {
@@ -10,6 +10,13 @@ pub fn memory(parts: &[(usize, &[u8])]) -> Vec<u8> {
         memory[*at..at + bytes.len()].copy_from_slice(bytes);
     }
     memory
+}
+
+/// The image that a save writes.
+pub fn image_of(cpu: Cpu, memory: &[u8]) -> Vec<u8> {
+    let mut image = vec![0; IMAGE_SIZE];
+    save_image(cpu, memory, &mut image).unwrap();
+    image
 }
 
 /// A state with no two fields alike.
