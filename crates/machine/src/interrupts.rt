@@ -43,7 +43,7 @@ fn choose(mem: &mut [u8]) -> u16
 {
     let p = memory::pending(&*mem);
     if p == 0 {
-        return 0;
+        return 0x0000;
     }
     let k = lowest(p);
     let requests = memory::read(&*mem, 0xFF0F);
