@@ -15,7 +15,7 @@ ghost use Rattle.machine.specs.Answers.{Gives, making};
 ghost use Rattle.machine.specs.Interrupts.{lowestOf, dispatchDueOf, chosenOf, vectoredOf, dispatchOf};
 
 // The lowest of the five requests that is set.
-pub(crate) fn lowest(p: u8) -> u8
+fn lowest(p: u8) -> u8
     ensures { λ r. ⌜ (r ≡ lowestOf p) × (r ≤ 4) ⌝ }
 {
     if bytes::bit(0, p) {

@@ -1,4 +1,4 @@
--- `instruction` meets its contract: what was fetched is the instruction at PC, and it is refused or run.
+-- `instruction_step` meets its contract: what was fetched is the instruction at PC, and it is refused or run.
 use mathlib.Core.Path.{_≡_, _∙_, ap}
 use native.Mathlib.Omega.{arith}
 use Rattle.arith.specs.Words.{further}
