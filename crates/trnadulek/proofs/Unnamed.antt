@@ -9,10 +9,10 @@ use Rattle.insn.proofs.Last.{Passed, past}
 use Rattle.trnadulek.specs.Sizes.{sizes, sizeOf}
 use Rattle.trnadulek.specs.Wording.{wordings, wordingOf}
 
-pub sizeless : (x : ℕ) → Passed 0 5 x → sizeOf x ≡ 0
+pub sizeless : (x : ℕ) → Passed 0 6 x → sizeOf x ≡ 0
 unfolding sizes sizeOf
-sizeless x p = List·getD-eq-default sizes 0 (past 0 5 x (omega arith) p)
+sizeless x p = List·getD-eq-default sizes 0 (past 0 6 x (omega arith) p)
 
-pub wordless : (x : ℕ) → Passed 0 10 x → wordingOf x ≡ []
+pub wordless : (x : ℕ) → Passed 0 11 x → wordingOf x ≡ []
 unfolding wordings wordingOf
-wordless x p = List·getD-eq-default wordings [] (past 0 10 x (omega arith) p)
+wordless x p = List·getD-eq-default wordings [] (past 0 11 x (omega arith) p)

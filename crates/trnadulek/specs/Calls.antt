@@ -6,6 +6,8 @@ use mathlib.Core.Bool.{Bool, true, false}
 use mathlib.Core.List.{List}
 use mathlib.Core.Path.{_≡_}
 use Rattle.arith.specs.Refusals.{unlessRefused}
+use Rattle.listing.specs.Answer.{Answer}
+use Rattle.listing.specs.declared.Listed.{Listed}
 use Rattle.machine.specs.Memory.{Memory}
 use Rattle.machine.specs.Answers.{With}
 use Rattle.machine.specs.Step.{stepOf}
@@ -104,3 +106,9 @@ runImageIf code budget image =
 
 unfoldable pub runImageOf : ℕ → List ℕ → ImageRun
 runImageOf budget image = runImageIf (loadCode imageSize image) budget image
+
+-- a listing: its number, the output and the length written
+pub record ListGives (a : Answer) (code : ℕ) (out : List ℕ) (length : ℕ) : Type 0 where
+  pub answers : code ≡ a .listed .code
+  pub leaves-out : out ≡ a .out
+  pub leaves-length : length ≡ a .listed .length

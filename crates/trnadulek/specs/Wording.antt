@@ -1,4 +1,5 @@
--- The wording of a refusal number: that of document 01, "Refusal numbers", under "Given exactly when".
+-- The wording of a refusal number: that of document 01, "Refusal numbers", under "Given exactly when"; from 10 on that of the
+-- requests in document 02.
 -- Assumes nothing.
 use Prim.Native.Nat.{ℕ}
 use mathlib.Core.Bool.{Bool, true, false}
@@ -21,6 +22,7 @@ wordings =
     ∷ ascii "version byte is not 1"
     ∷ ascii "a block length is not 14, or not 65,536"
     ∷ ascii "IME code above 2, or mode code above 3"
+    ∷ ascii "output too short"
     ∷ []
 
 -- a number that the table does not have has no wording

@@ -9,9 +9,10 @@ use machine::run;
 use saved::block;
 ghost use mathlib.Core.Path.{_≡_};
 ghost use Rattle.insn.specs.Table.{lengthOf, untakenOf};
+ghost use Rattle.listing.specs.Answer.{listOf};
 ghost use Rattle.machine.specs.Answers.{Gives};
 ghost use Rattle.trnadulek.specs.Block.{loadBlockOf, openBlockOf, saveBlockOf, saveBlockImageOf};
-ghost use Rattle.trnadulek.specs.Calls.{StepGives, stepBlockOf, RunGives, runBlockOf, ImageGives, runImageOf};
+ghost use Rattle.trnadulek.specs.Calls.{StepGives, stepBlockOf, RunGives, runBlockOf, ImageGives, runImageOf, ListGives};
 ghost use Rattle.trnadulek.specs.Sizes.{sizeOf, libraryVersion};
 ghost use Rattle.trnadulek.specs.Wording.{wordingOf, tellOf};
 
@@ -129,6 +130,17 @@ pub extern "C" fn trnadulek_save_image(state: &[u8; 14], memory: &[u8], image: &
     9
 }
 
+// The listing of a part whose first byte stands at an address. Refusal 10 where the output is too short, which is then unchanged, and
+// the length is 0.
+#[no_mangle]
+pub extern "C" fn trnadulek_list(part: &[u8], first: u16, out: &mut [u8], length: &mut usize) -> u8
+    ensures { λ r. ⌜ ListGives (listOf first (now (part .entry)) (now (out .entry))) r (now (out .exit)) (now (length .exit)) ⌝ }
+{
+    let listed = listing::list(part, first, out);
+    *length = listed.length;
+    listed.code
+}
+
 // The bytes of a row of the opcode table, and 0 for a row that has none.
 #[no_mangle]
 pub extern "C" fn trnadulek_length(row: u32) -> u8
@@ -145,7 +157,8 @@ pub extern "C" fn trnadulek_untaken_cycles(row: u32) -> u8
     table::untaken_cycles(row)
 }
 
-// The sizes that a host needs: 0 a head, 1 a state block, 2 the memory, 3 an image, 4 the largest budget; 0 for any other number.
+// The sizes that a host needs: 0 a head, 1 a state block, 2 the memory, 3 an image, 4 the largest budget, 5 the most characters of a
+// listing for each byte listed; 0 for any other number.
 #[no_mangle]
 pub extern "C" fn trnadulek_size(which: u32) -> u32
     ensures { λ r. ⌜ r ≡ sizeOf which ⌝ }
@@ -156,6 +169,7 @@ pub extern "C" fn trnadulek_size(which: u32) -> u32
         2 => 65_536,
         3 => 65_559,
         4 => LARGEST_BUDGET,
+        5 => 19,
         _ => 0,
     }
 }
@@ -165,7 +179,7 @@ pub extern "C" fn trnadulek_size(which: u32) -> u32
 pub extern "C" fn trnadulek_version() -> u32
     ensures { λ r. ⌜ r ≡ libraryVersion ⌝ }
 {
-    300
+    400
 }
 
 // The words for a refusal number, written if there is room for all of them. The answer is how many bytes they have.

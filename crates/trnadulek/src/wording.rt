@@ -26,6 +26,7 @@ pub(crate) fn tell(code: u8, out: &mut [u8]) -> usize
         7 => put(b"version byte is not 1", out),
         8 => put(b"a block length is not 14, or not 65,536", out),
         9 => put(b"IME code above 2, or mode code above 3", out),
+        10 => put(b"output too short", out),
         _ => 0,
     }
 }

@@ -14,4 +14,5 @@ trnadulek-size-spec =
     (λ c. rw (c .match .keys3))
     (λ c. rw (c .match .keys4))
     (λ c. rw (c .match .keys5))
+    (λ c. rw (c .match .keys6))
     (λ c. sym (sizeless (c .before .args .which) (c .match .rest))))
