@@ -1,5 +1,5 @@
-//! The listing of a part, in outputs without room, with too little, with exactly
-//! enough, and with more.
+//! The listing of a part, in outputs with more room than it takes, with exactly
+//! enough, with too little, and without any.
 
 use super::Verdict;
 use crate::answer::{hex, same, same_bytes};
@@ -29,15 +29,16 @@ pub fn listing(input: &Input) -> Verdict {
     })
 }
 
-/// None, half, one too few, exactly enough, one too many, and many too many.
+/// Many too many, one too many, exactly enough, one too few, half, and none: where the
+/// text itself is wrong, the most room shows it best.
 fn rooms(length: usize) -> [usize; 6] {
     [
-        0,
-        length / 2,
-        length.saturating_sub(1),
-        length,
-        length + 1,
         length + 100,
+        length + 1,
+        length,
+        length.saturating_sub(1),
+        length / 2,
+        0,
     ]
 }
 
