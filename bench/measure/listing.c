@@ -76,7 +76,7 @@ static void print_row(const char *what, struct ratio ratio, const char *bound, d
 }
 
 int main(int count, char **arguments) {
-	unsigned rounds = 10;
+	unsigned rounds = 30;
 	if (count == 4 && !strcmp(arguments[1], "--rounds")) {
 		rounds = read_number(arguments[2], MOST_ROUNDS);
 	} else if (count != 2) {
