@@ -2,7 +2,7 @@
 
 #include <time.h>
 
-static double processor_time(void) {
+double processor_time(void) {
 	struct timespec now;
 	clock_gettime(CLOCK_PROCESS_CPUTIME_ID, &now);
 	return (double) now.tv_sec + (double) now.tv_nsec * 1e-9;

@@ -7,6 +7,9 @@
 
 enum { MOST_ROUNDS = 99 };
 
+/* What this process has taken so far, in seconds. */
+double processor_time(void);
+
 /* A run in slices: what it did, and the processor time it took. */
 struct timed {
 	uint8_t code;

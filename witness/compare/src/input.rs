@@ -28,6 +28,8 @@ pub enum Kind {
     /// A state block of any codes, saved and where it is refused stepped and run by the
     /// proved core's C interface; the number is the length of the slice for the head.
     Block,
+    /// The listing of a part of any length; the number is its first address.
+    List,
     /// The row of the opcode table that the number names.
     Row,
     /// The program on its standard input.
@@ -60,7 +62,7 @@ const fn form(
     }
 }
 
-const FORMS: [Form; 11] = [
+const FORMS: [Form; 12] = [
     form(Kind::Step, "step", true, None, MEMORY_SIZE),
     form(Kind::Run, "run", true, Some("budget"), MEMORY_SIZE),
     form(
@@ -82,11 +84,17 @@ const FORMS: [Form; 11] = [
         MEMORY_SIZE,
     ),
     form(Kind::Block, "block", false, Some("room"), 14),
+    form(Kind::List, "list", false, Some("first"), 0),
     form(Kind::Row, "row", false, Some("row"), 0),
     form(Kind::Program, "program", false, None, INPUT_SIZE),
 ];
 
 impl Kind {
+    /// Whether bytes of any length mean something, and none of them is refused for it.
+    pub fn takes_any_length(self) -> bool {
+        self == Kind::List
+    }
+
     fn form(self) -> &'static Form {
         let found = FORMS.iter().find(|form| form.kind == self);
         found.expect("every kind has a form")
@@ -261,6 +269,7 @@ mod tests {
             Input::run_image(vec![7; IMAGE_SIZE], 100),
             Input::step(state, memory[1..].to_vec()),
             Input::bytes(Kind::Load, vec![9; 24]),
+            Input::new(Kind::List, State::default(), 0x150, vec![0x20, 0xF8, 0xD3]),
             Input::new(Kind::Row, State::default(), 511, Vec::new()),
         ] {
             assert_eq!(parse(&words(&input.to_string())), Ok(input));

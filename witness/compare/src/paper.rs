@@ -26,6 +26,7 @@ pub const SLICE_LENGTH: u8 = 6;
 pub const VERSION: u8 = 7;
 pub const BLOCK_LENGTH: u8 = 8;
 pub const STATE_CODE: u8 = 9;
+pub const ROOM: u8 = 10;
 
 /// The bytes that are no opcode.
 pub const UNDEFINED_BYTES: [u8; 11] = [
@@ -149,6 +150,14 @@ pub fn save_code(state: &State, memory: Option<&[u8]>, length: usize) -> u8 {
         FLAG_BITS
     } else {
         DONE
+    }
+}
+
+/// The code of listing a text of this length to an output of that one.
+pub fn list_code(length: usize, room: usize) -> u8 {
+    match room < length {
+        true => ROOM,
+        false => DONE,
     }
 }
 

@@ -53,6 +53,11 @@ pub fn save_image(block: &Block, memory: &[u8], image: &mut [u8]) -> Option<u8> 
     call::save_image(block, memory, image)
 }
 
+/// Code and length of a part's listing, which is written to the front of `out`.
+pub fn list(part: &[u8], first: u16, out: &mut [u8]) -> Option<(u8, usize)> {
+    call::list(part, first, out)
+}
+
 /// Length and untaken cycles of a row of the opcode table.
 pub fn row(row: u32) -> Option<(u8, u8)> {
     call::row(row)
@@ -67,6 +72,7 @@ mod call {
     const UNWRITTEN: u8 = 0xA5;
     const UNWRITTEN_COUNT: u32 = 0xA5A5;
     const UNWRITTEN_BLOCK: Block = [UNWRITTEN; 14];
+    const UNWRITTEN_LENGTH: usize = 0xA5A5;
 
     pub fn step(state: &mut Block, memory: &mut [u8]) -> Option<(u8, u8)> {
         let mut cycles = UNWRITTEN;
@@ -106,6 +112,12 @@ mod call {
         Some(link::save_image(block, memory, image))
     }
 
+    pub fn list(part: &[u8], first: u16, out: &mut [u8]) -> Option<(u8, usize)> {
+        let mut length = UNWRITTEN_LENGTH;
+        let code = link::list(part, first, out, &mut length);
+        Some((code, length))
+    }
+
     pub fn row(row: u32) -> Option<(u8, u8)> {
         Some((link::length(row), link::untaken_cycles(row)))
     }
@@ -140,6 +152,10 @@ mod call {
     }
 
     pub fn save_image(_: &Block, _: &[u8], _: &mut [u8]) -> Option<u8> {
+        None
+    }
+
+    pub fn list(_: &[u8], _: u16, _: &mut [u8]) -> Option<(u8, usize)> {
         None
     }
 

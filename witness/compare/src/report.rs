@@ -41,7 +41,7 @@ pub fn print_heading() {
          ({proved});"
     );
     println!(
-        "paper, which is what document 01 fixes outright. The counts are inputs that each judged."
+        "paper, which is what documents 01 and 02 fix outright. The counts are inputs that each judged."
     );
     print_line(
         "comparison",
@@ -151,7 +151,7 @@ fn names(judged: &Judged) -> String {
         (judged.mgba, "mGBA"),
         (judged.plain, "the plain core"),
         (judged.proved, "the proved core"),
-        (judged.paper, "document 01's own words"),
+        (judged.paper, "the documents' own words"),
     ];
     let names = judges.into_iter().filter(|judge| judge.0);
     names.map(|judge| judge.1).collect::<Vec<_>>().join(", ")

@@ -1,5 +1,5 @@
 //! From an input that fails to the smallest one that this search finds: numbers
-//! lowered, registers and bytes made zero, as long as the failure persists.
+//! lowered, parts cut, registers and bytes made zero, as long as the failure persists.
 
 use crate::input::Input;
 use second::{Ime, Mode, State};
@@ -45,7 +45,8 @@ pub fn smallest(input: Input, fails: &mut dyn FnMut(&Input) -> bool) -> Input {
     for _ in 0..ROUNDS {
         let before = search.input.clone();
         search.number();
-        search.bytes(0, before.bytes.len());
+        search.length();
+        search.bytes(0, search.input.bytes.len());
         search.registers();
         if search.input == before {
             break;
@@ -77,6 +78,24 @@ impl Search<'_> {
         }
     }
 
+    /// Leaves out bytes at the end or at the front, many at once and then fewer.
+    fn length(&mut self) {
+        if !self.input.kind.takes_any_length() {
+            return;
+        }
+        let mut less = self.input.bytes.len();
+        while less > 0 {
+            while self.input.bytes.len() >= less && self.without(less) {}
+            less /= 2;
+        }
+    }
+
+    fn without(&mut self, less: usize) -> bool {
+        let stay = self.input.bytes.len() - less;
+        self.keep(|input| input.bytes.truncate(stay))
+            || self.keep(|input| input.bytes = input.bytes.split_off(less))
+    }
+
     fn registers(&mut self) {
         for edit in REGISTERS {
             self.keep(|input| edit(&mut input.state));
@@ -98,6 +117,7 @@ impl Search<'_> {
 #[cfg(test)]
 mod tests {
     use super::*;
+    use crate::input::Kind;
 
     #[test]
     fn only_what_matters_stays() {
@@ -119,5 +139,14 @@ mod tests {
             ..State::default()
         };
         assert_eq!(small, Input::run(state, memory, 37));
+    }
+
+    #[test]
+    fn a_part_is_cut_down() {
+        let part = |bytes| Input::new(Kind::List, State::default(), 0, bytes);
+        let mut bytes = vec![0x55; 1000];
+        bytes[700] = 0x10;
+        let mut fails = |input: &Input| input.bytes.windows(2).any(|pair| pair == [0x10, 0x55]);
+        assert_eq!(smallest(part(bytes), &mut fails), part(vec![0x10, 0x55]));
     }
 }

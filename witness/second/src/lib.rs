@@ -1,14 +1,16 @@
 //! Witness one: a second program for the SM83, written from document 01, M-100
-//! of document 02 and the rgbds instruction reference alone, to be held against
-//! the proved core.
+//! and M-101 of document 02 and the rgbds instruction reference alone, to be held
+//! against the proved core.
 //!
-//! Every opcode byte has a case of its own (`opcodes` and `prefixed`), so
-//! the opcode grid of document 01 is nowhere used to decode.
+//! Every opcode byte has a case of its own (`opcodes` and `prefixed`) and a
+//! spelling of its own (`listing`), so the opcode grid of document 01 is nowhere
+//! used to decode.
 
 #![forbid(unsafe_code)]
 
 mod alu;
 mod jumps;
+mod listing;
 mod memory;
 mod opcodes;
 mod prefixed;
@@ -20,6 +22,7 @@ mod state;
 mod step;
 mod table;
 
+pub use listing::{list, listing};
 pub use memory::SIZE as MEMORY_SIZE;
 pub use program::{program, HEADER, INPUT_SIZE};
 pub use refusal::sentence;

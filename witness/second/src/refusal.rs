@@ -1,4 +1,4 @@
-//! The refusal numbers of document 01, and its words for each.
+//! The refusal numbers of documents 01 and 02, and their words for each.
 
 pub const DONE: u8 = 0;
 pub const MEMORY_LENGTH: u8 = 1;
@@ -10,6 +10,7 @@ pub const LENGTH: u8 = 6;
 pub const VERSION: u8 = 7;
 pub const BLOCK_LENGTH: u8 = 8;
 pub const STATE_CODE: u8 = 9;
+pub const ROOM: u8 = 10;
 
 /// What a number means, in the words that the project has for it everywhere.
 pub fn sentence(code: u8) -> &'static str {
@@ -24,6 +25,7 @@ pub fn sentence(code: u8) -> &'static str {
         VERSION => "version byte is not 1",
         BLOCK_LENGTH => "a block length is not 14, or not 65,536",
         STATE_CODE => "IME code above 2, or mode code above 3",
+        ROOM => "output too short",
         _ => "no such refusal number",
     }
 }

@@ -229,6 +229,17 @@ fn save_refuses_what_no_saved_form_holds() {
 }
 
 #[test]
+fn list_prints_the_standard_input_as_a_listing() {
+    let called = call(&["list", "0150"], &[0x20, 0xF8, 0xD3]);
+    let out = "0150 20F8 JR NZ,$014A\n0152 D3 DB $D3\n";
+    assert_eq!((called.status, &*called.out), (0, out));
+    answers(&["list", "FFFF"], "");
+    let longer = call(&["list", "fFfF"], &[0x00; 70_000]);
+    assert_eq!((longer.status, longer.out.lines().count()), (0, 70_000));
+    assert!(longer.out.starts_with("FFFF 00 NOP\n0000 00 NOP\n"));
+}
+
+#[test]
 fn bad_usage_is_one_line() {
     let folder = Folder::new("usage");
     let file = folder.put("image", &small());
@@ -240,6 +251,10 @@ fn bad_usage_is_one_line() {
     fails(&["run", &file, &out], 2, "usage: ");
     fails(&["run", &file, "-1", &out], 2, "BUDGET");
     fails(&["run", &file, "4294967296", &out], 2, "BUDGET");
+    fails(&["list"], 2, "usage: ");
+    fails(&["list", "10000"], 2, "FIRST");
+    fails(&["list", "+1"], 2, "FIRST");
+    fails(&["list", ""], 2, "FIRST");
     fails(&["load", &folder.path("absent")], 2, "cannot read");
     fails(&["load", &folder.path("")], 2, "cannot read");
     assert!(!folder.has("out"));

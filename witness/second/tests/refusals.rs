@@ -189,7 +189,7 @@ fn stop_ends_a_run_with_3() {
     assert_eq!((ran.state.pc, ran.state.mode), (3, Mode::Stopped));
 }
 
-/// Document 01's table of the numbers, in its words.
+/// Document 01's table of the numbers and M-101's, in their words.
 #[test]
 fn every_number_has_its_words() {
     let table = [
@@ -202,6 +202,7 @@ fn every_number_has_its_words() {
         (7, "version byte is not 1"),
         (8, "a block length is not 14, or not 65,536"),
         (9, "IME code above 2, or mode code above 3"),
+        (10, "output too short"),
     ];
     for (number, words) in table {
         assert_eq!(second::sentence(number), words);

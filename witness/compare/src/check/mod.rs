@@ -4,6 +4,7 @@
 mod adding;
 mod block;
 mod image;
+mod listing;
 mod program;
 mod run;
 mod saved;
@@ -29,6 +30,7 @@ pub fn check(bench: &mut Bench, input: &Input) -> Verdict {
         Kind::SaveHead => saved::save_head(input),
         Kind::SaveImage => saved::save_image(input),
         Kind::Block => block::block(input),
+        Kind::List => listing::listing(input),
         Kind::Row => table::row(bench, input),
         Kind::Program => program::program(bench, input),
     }

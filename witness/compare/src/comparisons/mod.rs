@@ -7,6 +7,7 @@ mod cases;
 mod halt;
 mod interrupts;
 mod lengths;
+mod listing;
 mod program;
 mod refusals;
 mod rows;
@@ -66,7 +67,7 @@ fn comparison(
 
 /// All of them, in the order in which they are run.
 #[rustfmt::skip] // One line for each.
-pub fn all() -> [Comparison; 29] {
+pub fn all() -> [Comparison; 30] {
     [
         comparison("cases", "the twelve cases of document 01", Both, cases::cases),
         comparison("table", "every row, and rows above 511", Mgba, table::table),
@@ -96,6 +97,7 @@ pub fn all() -> [Comparison; 29] {
         comparison("lengths", "every length one off each limit", Plain, lengths::lengths),
         comparison("heads", "each head byte at each of its values", Neither, saved::heads),
         comparison("images", "images opened and saved", Neither, saved::images),
+        comparison("listing", "every opcode and random parts as text", Neither, listing::listing),
         comparison("program", "the program's text", Both, program::program),
     ]
 }

@@ -15,8 +15,15 @@ pub fn read_at_most(path: &OsStr, limit: usize) -> Result<Vec<u8>, Failure> {
 
 /// The bytes of the standard input, read as [`read_at_most`] reads a file.
 pub fn read_input(limit: usize) -> Result<Vec<u8>, Failure> {
-    take(stdin().lock(), limit)
-        .map_err(|error| Failure::Trouble(format!("cannot read the standard input: {error}")))
+    take(stdin().lock(), limit).map_err(|error| input_trouble(&error))
+}
+
+/// All bytes of the standard input, however many.
+pub fn read_all_input() -> Result<Vec<u8>, Failure> {
+    let mut bytes = Vec::new();
+    let read = stdin().lock().read_to_end(&mut bytes);
+    read.map_err(|error| input_trouble(&error))?;
+    Ok(bytes)
 }
 
 /// Makes a file that must not exist yet.
@@ -45,6 +52,10 @@ fn take(source: impl Read, limit: usize) -> Result<Vec<u8>, Error> {
     let mut bytes = Vec::new();
     source.take(limit as u64 + 1).read_to_end(&mut bytes)?;
     Ok(bytes)
+}
+
+fn input_trouble(error: &Error) -> Failure {
+    Failure::Trouble(format!("cannot read the standard input: {error}"))
 }
 
 fn trouble(what: &str, path: &OsStr, error: &Error) -> Failure {

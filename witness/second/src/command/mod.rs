@@ -5,12 +5,12 @@ mod files;
 mod numbers;
 
 use failure::{refused, usage, Failure};
-use files::{new_file, read_at_most, read_input, say};
+use files::{new_file, read_all_input, read_at_most, read_input, say};
 use second::{State, HEAD_SIZE, IMAGE_SIZE, INPUT_SIZE, MEMORY_SIZE};
 use std::ffi::{OsStr, OsString};
 
 const USAGE: &str = "usage: second program | table | step IMAGE OUT | run IMAGE BUDGET OUT \
-                     | load FILE | save OUT AF BC DE HL SP PC IME MODE [MEMORY]";
+                     | load FILE | save OUT AF BC DE HL SP PC IME MODE [MEMORY] | list FIRST";
 
 /// AF BC DE HL SP PC IME MODE.
 const REGISTERS: usize = 8;
@@ -28,6 +28,7 @@ pub fn perform(arguments: &[OsString]) -> Result<(), Failure> {
         (Some("run"), [image, budget, out]) => run(image, budget, out),
         (Some("load"), [file]) => load(file),
         (Some("save"), [out, registers @ ..]) => save(out, registers),
+        (Some("list"), [first]) => list(first),
         _ => Err(usage(USAGE)),
     }
 }
@@ -96,6 +97,12 @@ fn save(out: &OsStr, operands: &[OsString]) -> Result<(), Failure> {
         _ => return Err(usage(USAGE)),
     }
     say("0\n")
+}
+
+/// Lists the standard input as a part that begins at an address.
+fn list(first: &OsStr) -> Result<(), Failure> {
+    let first = numbers::word("FIRST", first)?;
+    say(&second::listing(&read_all_input()?, first))
 }
 
 fn open(file: &OsStr) -> Result<(State, Vec<u8>), Failure> {

@@ -37,7 +37,8 @@ pub fn state(registers: &[OsString]) -> Result<State, Failure> {
     })
 }
 
-fn word(name: &str, text: &OsStr) -> Result<u16, Failure> {
+/// A word of hexadecimal digits, without a sign before them.
+pub fn word(name: &str, text: &OsStr) -> Result<u16, Failure> {
     digits(text, u8::is_ascii_hexdigit)
         .and_then(|digits| u16::from_str_radix(digits, 16).ok())
         .ok_or_else(|| usage(&format!("{name} must be hexadecimal, from 0 to FFFF")))
