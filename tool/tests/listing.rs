@@ -234,6 +234,12 @@ fn one_bank_of_many() {
     ] {
         assert_eq!(bench.tool(&format!("list eight {asked}")).done(), text);
     }
+}
+
+#[test]
+fn banks_and_addresses_that_are_not_there() {
+    let bench = Bench::new("list-no-bank");
+    bench.put("eight", &[0; 8 * BANK]);
     for (asked, words) in [
         ("--bank 8", "eight: there is no bank 8, only banks 0 to 7"),
         (
@@ -365,64 +371,67 @@ fn to_a_file() {
     assert_eq!(bench.get("new"), []);
 }
 
+/// What is not understood, and what is said of it.
+const WRONG_USE: [(&str, &str); 19] = [
+    (
+        "list",
+        "the form is: trnadulek-tool list (FILE | --part FILE --from ADDRESS)",
+    ),
+    ("list in in", "the form is: "),
+    ("list in --part in --from 0", "the form is: "),
+    ("list --dump in --cartridge in", "the form is: "),
+    (
+        "list --part in",
+        "--part wants --from too, the address of its first byte",
+    ),
+    (
+        "list --part in --from 10000",
+        "--from: found 10000, wanted up to four hexadecimal digits",
+    ),
+    (
+        "list --part in --from 0 --lines 3",
+        "--lines is not for --part",
+    ),
+    (
+        "list --part in --from 0 --bytes 0..1",
+        "--bytes is not for --part",
+    ),
+    (
+        "list --part in --from 0 --bank 1",
+        "--bank is not for --part",
+    ),
+    ("list --part", "--part wants a file"),
+    (
+        "list in --lines 0",
+        "--lines: found 0, wanted a number in decimal digits, 1 to 65,536",
+    ),
+    ("list in --lines 65537", "--lines: found 65537, wanted"),
+    ("list in --lines ten", "--lines: found ten, wanted"),
+    (
+        "list in --bank 512",
+        "--bank: found 512, wanted a number in decimal digits, 0 to 511",
+    ),
+    (
+        "list in --bytes 2..1",
+        "--bytes: found 2..1, wanted ADDRESS..ADDRESS",
+    ),
+    (
+        "list in --bytes 0..1 --lines 3",
+        "--bytes, or --from and --lines, not both",
+    ),
+    ("list in --replace", "--replace is for --out"),
+    (
+        "list in --score 0 1",
+        "--score is for show, judge, not for list",
+    ),
+    ("show in --from 0", "--from is for list, not for show"),
+];
+
 #[test]
 fn wrong_use() {
     let bench = Bench::new("list-usage");
     bench.put("in", &image(&WORKED_HEAD, &worked_memory()));
-    for (line, words) in [
-        (
-            "list",
-            "the form is: trnadulek-tool list (FILE | --part FILE --from ADDRESS)",
-        ),
-        ("list in in", "the form is: "),
-        ("list in --part in --from 0", "the form is: "),
-        ("list --dump in --cartridge in", "the form is: "),
-        (
-            "list --part in",
-            "--part wants --from too, the address of its first byte",
-        ),
-        (
-            "list --part in --from 10000",
-            "--from: found 10000, wanted up to four hexadecimal digits",
-        ),
-        (
-            "list --part in --from 0 --lines 3",
-            "--lines is not for --part",
-        ),
-        (
-            "list --part in --from 0 --bytes 0..1",
-            "--bytes is not for --part",
-        ),
-        (
-            "list --part in --from 0 --bank 1",
-            "--bank is not for --part",
-        ),
-        ("list --part", "--part wants a file"),
-        (
-            "list in --lines 0",
-            "--lines: found 0, wanted a number in decimal digits, 1 to 65,536",
-        ),
-        ("list in --lines 65537", "--lines: found 65537, wanted"),
-        ("list in --lines ten", "--lines: found ten, wanted"),
-        (
-            "list in --bank 512",
-            "--bank: found 512, wanted a number in decimal digits, 0 to 511",
-        ),
-        (
-            "list in --bytes 2..1",
-            "--bytes: found 2..1, wanted ADDRESS..ADDRESS",
-        ),
-        (
-            "list in --bytes 0..1 --lines 3",
-            "--bytes, or --from and --lines, not both",
-        ),
-        ("list in --replace", "--replace is for --out"),
-        (
-            "list in --score 0 1",
-            "--score is for show, judge, not for list",
-        ),
-        ("show in --from 0", "--from is for list, not for show"),
-    ] {
+    for (line, words) in WRONG_USE {
         let answer = bench.tool(line);
         assert!(
             answer
