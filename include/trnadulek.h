@@ -36,9 +36,10 @@
  * What a call does with them: it writes only where a pointer is not const,
  * and only what its comment says. It keeps no pointer and no state, allocates
  * nothing, reads no clock and no file, calls nothing of the host, and returns
- * after at most a budget's worth of steps. So it is reentrant, and calls on
- * different bytes may run at the same time, in any threads. It needs less than
- * 1,024 bytes of stack, whatever the budget.
+ * after at most a budget's worth of steps, or two readings of what is listed.
+ * So it is reentrant, and calls on different bytes may run at the same time, in
+ * any threads. It needs less than 1,024 bytes of stack, whatever the budget and
+ * the lengths.
  *
  * This header is C99 and C++11. Link with libtrnadulek.a, which is for x86-64
  * Linux.
@@ -54,10 +55,10 @@
  * 10,000 times the first number, 100 times the second, and the third.
  */
 #define TRNADULEK_VERSION_MAJOR 0
-#define TRNADULEK_VERSION_MINOR 3
+#define TRNADULEK_VERSION_MINOR 4
 #define TRNADULEK_VERSION_PATCH 0
-#define TRNADULEK_VERSION_NUMBER 300u
-#define TRNADULEK_VERSION_STRING "0.3.0"
+#define TRNADULEK_VERSION_NUMBER 400u
+#define TRNADULEK_VERSION_STRING "0.4.0"
 
 /* The sizes. trnadulek_size answers them too. */
 #define TRNADULEK_HEAD_SIZE 23u
@@ -65,6 +66,9 @@
 #define TRNADULEK_MEMORY_SIZE 65536u
 #define TRNADULEK_IMAGE_SIZE 65559u
 #define TRNADULEK_LARGEST_BUDGET 1048576u
+
+/* The most bytes of text that a listing has for each byte listed; a size too. */
+#define TRNADULEK_LISTING_PER_BYTE 19u
 
 /* The most cycles that a run can spend beyond its budget. */
 #define TRNADULEK_LARGEST_EXCESS 5u
@@ -87,7 +91,8 @@ enum trnadulek_code {
     TRNADULEK_LENGTH = 6,        /* head, image or output slice of wrong length */
     TRNADULEK_SAVED_VERSION = 7, /* version byte is not 1 */
     TRNADULEK_BLOCK_LENGTH = 8,  /* a block length is not 14, or not 65,536 */
-    TRNADULEK_STATE_CODE = 9     /* IME code above 2, or mode code above 3 */
+    TRNADULEK_STATE_CODE = 9,    /* IME code above 2, or mode code above 3 */
+    TRNADULEK_ROOM = 10          /* output too short */
 };
 
 /*
@@ -187,9 +192,35 @@ uint8_t trnadulek_length(uint32_t row);
 uint8_t trnadulek_untaken_cycles(uint32_t row);
 
 /*
+ * Lists a part of a program as text: one line an instruction, from the part's
+ * first byte, whose address is first, to its end. A line is four digits of the
+ * address, a space, the bytes, a space, the instruction and a line feed:
+ *
+ *   0150 20F8 JR NZ,$014A
+ *   0152 D3 DB $D3
+ *
+ * Every byte stands in one line. One that begins no instruction is data, DB:
+ * an undefined opcode, a $10 that no $00 follows, and the first byte of an
+ * instruction that the part's end cuts; the next byte is read afresh then.
+ * Addresses count modulo 65,536. The text is ASCII and has no zero byte.
+ *
+ * 0: *length is how many bytes the text has. They are at the front of out, and
+ * the bytes of out past them are unchanged. An empty part has length 0.
+ * 10: the text is longer than out_len. *length is 0, and out is unchanged.
+ *
+ * Room of part_len * TRNADULEK_LISTING_PER_BYTE bytes is always enough, and
+ * room of exactly the text's length is. How long a text would be cannot be
+ * asked: a host with less room may try it and, after 10, ask again with more
+ * room or for fewer bytes.
+ */
+uint8_t trnadulek_list(const uint8_t *part, size_t part_len, uint16_t first, uint8_t *out, size_t out_len,
+                       size_t *length);
+
+/*
  * The sizes as the library has them: 0 a head, 1 a state block, 2 the memory,
- * 3 an image, 4 the largest budget; 0 for any other number. A host that asks
- * at its start knows that the header and the library belong together.
+ * 3 an image, 4 the largest budget, 5 the most bytes of text for each byte
+ * listed; 0 for any other number. A host that asks at its start knows that the
+ * header and the library belong together.
  */
 uint32_t trnadulek_size(uint32_t which);
 

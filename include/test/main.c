@@ -14,6 +14,7 @@ int main(void)
     test_runs();
     test_images();
     test_saved();
+    test_listing();
     test_nulls();
     printf("%lu checks, %lu failed\n", checks_made(), checks_failed());
     return checks_failed() != 0;

@@ -45,6 +45,27 @@ static void loads_and_saves(void)
     unit_release(&unit);
 }
 
+/* Nothing to list needs no room, and a byte does. */
+static void listings(void)
+{
+    struct guarded part = guarded_bytes(1, 0xC9);
+    struct guarded out = guarded_bytes(3, 0xA5);
+    struct guarded before = guarded_bytes(3, 0xA5);
+    size_t length = 0xA5A5;
+    check_number("list, no part and no room", TRNADULEK_DONE, trnadulek_list(NULL, 0, 0x0150, NULL, 0, &length));
+    check_number("list, no part and no room", 0, length);
+    length = 0xA5A5;
+    check_number("list, no part", TRNADULEK_DONE, trnadulek_list(NULL, 0, 0x0150, out.bytes, out.count, &length));
+    check_number("list, no part", 0, length);
+    length = 0xA5A5;
+    check_number("list, no room", TRNADULEK_ROOM, trnadulek_list(part.bytes, part.count, 0x0150, NULL, 0, &length));
+    check_number("list, no room", 0, length);
+    check_bytes("list, no part", before.bytes, out.bytes, out.count);
+    guarded_release("beside a part", &part);
+    guarded_release("beside a text", &out);
+    guarded_release("beside an old text", &before);
+}
+
 /* How long the words are can be asked with no room at all. */
 static void words(void)
 {
@@ -57,5 +78,6 @@ void test_nulls(void)
 {
     steps_and_runs();
     loads_and_saves();
+    listings();
     words();
 }

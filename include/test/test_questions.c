@@ -25,7 +25,8 @@ static void sizes(void)
     check_number("size of the memory", TRNADULEK_MEMORY_SIZE, trnadulek_size(2));
     check_number("size of an image", TRNADULEK_IMAGE_SIZE, trnadulek_size(3));
     check_number("the largest budget", TRNADULEK_LARGEST_BUDGET, trnadulek_size(4));
-    check_number("no size 5", 0, trnadulek_size(5));
+    check_number("text for each byte listed", TRNADULEK_LISTING_PER_BYTE, trnadulek_size(5));
+    check_number("no size 6", 0, trnadulek_size(6));
     check_number("no size 4,294,967,295", 0, trnadulek_size(UINT32_MAX));
 }
 
@@ -80,7 +81,8 @@ static void words(void)
     words_of(TRNADULEK_SAVED_VERSION, "version byte is not 1");
     words_of(TRNADULEK_BLOCK_LENGTH, "a block length is not 14, or not 65,536");
     words_of(TRNADULEK_STATE_CODE, "IME code above 2, or mode code above 3");
-    for (code = TRNADULEK_STATE_CODE + 1; code <= UINT8_MAX; code++) {
+    words_of(TRNADULEK_ROOM, "output too short");
+    for (code = TRNADULEK_ROOM + 1; code <= UINT8_MAX; code++) {
         words_with_room((uint8_t)code, "", 50);
         text_of((uint8_t)code, "");
     }

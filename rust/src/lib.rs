@@ -11,7 +11,8 @@
 //!   together, also where the run ends early;
 //! - [`open`] reads an image where it lies, and [`save_image`] writes one of a state and a memory;
 //! - [`save`] and [`load`] write and read a head, the 23 bytes of a saved state;
-//! - [`length`] and [`untaken_cycles`] look an opcode up.
+//! - [`length`] and [`untaken_cycles`] look an opcode up;
+//! - [`list`] writes bytes as text, one line an instruction; `listing` answers it as a string.
 //!
 //! The memory is never copied, except into an image that is saved.
 //!
@@ -35,8 +36,8 @@
 //! # Ok::<(), trnadulek::Ended>(())
 //! ```
 //!
-//! The feature `std`, which is on by default, gives the errors `std::error::Error`. Without it the
-//! crate is `no_std`.
+//! The feature `std`, which is on by default, gives the errors `std::error::Error`, and `listing`.
+//! Without it the crate is `no_std`.
 //!
 //! # The library
 //!
@@ -57,6 +58,7 @@ mod image;
 #[doc(hidden)]
 #[allow(missing_docs)] // The header says what each call does.
 pub mod link;
+mod listing;
 mod refusal;
 mod saved;
 mod steps;
@@ -65,6 +67,9 @@ mod version;
 
 pub use cpu::{Cpu, Ime, Mode, UnknownName};
 pub use image::{open_mut, run_image, Image};
+#[cfg(feature = "std")]
+pub use listing::listing;
+pub use listing::{list, LISTING_PER_BYTE};
 pub use refusal::{Refusal, UnknownNumber};
 pub use saved::{load, open, save, save_image, HEAD_SIZE, IMAGE_SIZE, STATE_SIZE};
 pub use steps::{run, step, Ended, Ran, Stepped, LARGEST_BUDGET, LARGEST_EXCESS, MEMORY_SIZE};

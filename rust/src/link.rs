@@ -41,6 +41,14 @@ mod extern_c {
         ) -> u8;
         pub fn trnadulek_length(row: u32) -> u8;
         pub fn trnadulek_untaken_cycles(row: u32) -> u8;
+        pub fn trnadulek_list(
+            part: *const u8,
+            part_len: usize,
+            first: u16,
+            out: *mut u8,
+            out_len: usize,
+            length: *mut usize,
+        ) -> u8;
         pub fn trnadulek_size(which: u32) -> u32;
         pub fn trnadulek_version() -> u32;
         pub fn trnadulek_words(code: u8, out: *mut u8, out_len: usize) -> usize;
@@ -103,6 +111,11 @@ pub fn length(row: u32) -> u8 {
 
 pub fn untaken_cycles(row: u32) -> u8 {
     unsafe { extern_c::trnadulek_untaken_cycles(row) }
+}
+
+pub fn list(part: &[u8], first: u16, out: &mut [u8], length: &mut usize) -> u8 {
+    let (bytes, room) = (out.as_mut_ptr(), out.len());
+    unsafe { extern_c::trnadulek_list(part.as_ptr(), part.len(), first, bytes, room, length) }
 }
 
 pub fn size(which: u32) -> u32 {

@@ -35,6 +35,8 @@ pub enum Refusal {
     BlockLength,
     /// 9: IME code above 2, or mode code above 3.
     StateCode,
+    /// 10: output too short.
+    Room,
 }
 
 /// No words are longer.
@@ -42,7 +44,7 @@ const LONGEST_WORDS: usize = 43;
 
 impl Refusal {
     /// Every refusal, in the order of the numbers.
-    pub const ALL: [Refusal; 9] = [
+    pub const ALL: [Refusal; 10] = [
         Refusal::MemoryLength,
         Refusal::FlagBits,
         Refusal::Stopped,
@@ -52,6 +54,7 @@ impl Refusal {
         Refusal::Version,
         Refusal::BlockLength,
         Refusal::StateCode,
+        Refusal::Room,
     ];
 
     /// The number that the core answers for it.
@@ -66,6 +69,7 @@ impl Refusal {
             Refusal::Version => 7,
             Refusal::BlockLength => 8,
             Refusal::StateCode => 9,
+            Refusal::Room => 10,
         }
     }
 
@@ -105,7 +109,7 @@ impl TryFrom<u8> for Refusal {
 
     /// # Errors
     ///
-    /// For a number that stands for no refusal: 0, which is done, and those above 9.
+    /// For a number that stands for no refusal: 0, which is done, and those above 10.
     fn try_from(number: u8) -> Result<Self, UnknownNumber> {
         let mut all = Refusal::ALL.into_iter();
         all.find(|refusal| refusal.number() == number)

@@ -1,7 +1,7 @@
 use crate::link;
 
 /// The version that this crate was written for, as [`version`] counts.
-pub const VERSION: u32 = 300;
+pub const VERSION: u32 = 400;
 
 /// The version of the library that is linked: 10,000 times the major number, 100 times the minor
 /// one and the patch. A host that compares it with [`VERSION`] at its start knows that the crate and
@@ -33,13 +33,14 @@ mod tests {
 
     #[test]
     fn the_sizes_are_the_library_s() {
-        let sizes = [0, 1, 2, 3, 4, 5, u32::MAX].map(|which| size(which) as usize);
+        let sizes = [0, 1, 2, 3, 4, 5, 6, u32::MAX].map(|which| size(which) as usize);
         let wanted = [
             crate::HEAD_SIZE,
             crate::STATE_SIZE,
             crate::MEMORY_SIZE,
             crate::IMAGE_SIZE,
             crate::LARGEST_BUDGET as usize,
+            crate::LISTING_PER_BYTE,
             0,
             0,
         ];

@@ -1,4 +1,4 @@
-//! The numbers of document 01, "Refusal numbers", and its words.
+//! The numbers of document 01, "Refusal numbers", and its words; 10 is document 02's.
 
 use std::error::Error;
 use trnadulek::{Refusal, UnknownNumber};
@@ -15,6 +15,7 @@ fn every_refusal_has_its_number_and_words() {
         (7, "version byte is not 1"),
         (8, "a block length is not 14, or not 65,536"),
         (9, "IME code above 2, or mode code above 3"),
+        (10, "output too short"),
     ];
     let told = Refusal::ALL.map(|refusal| (refusal.number(), refusal.to_string()));
     assert_eq!(
@@ -28,7 +29,7 @@ fn numbers_and_refusals_there_and_back() {
     for number in 0..=255 {
         let given = Refusal::try_from(number).map(Refusal::number);
         let wanted = match number {
-            1..=9 => Ok(number),
+            1..=10 => Ok(number),
             _ => Err(UnknownNumber(number)),
         };
         assert_eq!(given, wanted);
@@ -39,6 +40,6 @@ fn numbers_and_refusals_there_and_back() {
 fn a_refusal_is_an_error_and_so_is_a_number_that_is_none() {
     let error: Box<dyn Error> = Refusal::Version.into();
     assert_eq!(error.to_string(), "version byte is not 1");
-    let error: Box<dyn Error> = UnknownNumber(10).into();
-    assert_eq!(error.to_string(), "no refusal has the number 10");
+    let error: Box<dyn Error> = UnknownNumber(11).into();
+    assert_eq!(error.to_string(), "no refusal has the number 11");
 }

@@ -35,7 +35,7 @@ const fn often(known: Known) -> Known {
     }
 }
 
-const KNOWN: [Known; 18] = [
+const KNOWN: [Known; 23] = [
     flag("--help"),
     flag("--version"),
     flag("--replace"),
@@ -52,6 +52,11 @@ const KNOWN: [Known; 18] = [
     known("--ime", 1, "a value"),
     known("--mode", 1, "a value"),
     known("--at", 1, "an address"),
+    known("--part", 1, "a file"),
+    known("--from", 1, "an address"),
+    known("--lines", 1, "a number"),
+    known("--bank", 1, "a number"),
+    known("--out", 1, "a file"),
     often(known("--bytes", 1, "ADDRESS..ADDRESS")),
     often(known("--score", 2, "an address and a length")),
 ];

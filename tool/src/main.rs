@@ -4,9 +4,11 @@
 #![deny(unsafe_code)]
 
 mod arguments;
+mod cartridge;
 mod commands;
 mod differences;
 mod input;
+mod listing;
 mod numbers;
 mod progress;
 mod refused;

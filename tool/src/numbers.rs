@@ -1,7 +1,7 @@
 //! Addresses, lengths and cycles as they are typed.
 
 use std::ffi::OsStr;
-use std::ops::Range;
+use std::ops::{Range, RangeInclusive};
 
 use trnadulek::MEMORY_SIZE;
 
@@ -63,6 +63,21 @@ pub fn cycles(value: &OsStr) -> Result<u64, Trouble> {
         let wanted = format!("a number in decimal digits, at most {}", u64::MAX);
         wrong("the cycles", value, &wanted)
     })
+}
+
+/// The value of an option that takes a number of things.
+pub fn count(option: &str, value: &OsStr, wanted: RangeInclusive<usize>) -> Result<usize, Trouble> {
+    let found = decimal(value).and_then(|number| usize::try_from(number).ok());
+    found
+        .filter(|number| wanted.contains(number))
+        .ok_or_else(|| {
+            let (least, most) = (wanted.start(), words::grouped(*wanted.end() as u64));
+            wrong(
+                option,
+                value,
+                &format!("a number in decimal digits, {least} to {most}"),
+            )
+        })
 }
 
 fn decimal(value: &OsStr) -> Option<u64> {

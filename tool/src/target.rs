@@ -11,9 +11,9 @@ use crate::input::{identity, Identity};
 use crate::trouble::Trouble;
 use crate::{unix, words};
 
-/// Writes a file whose bytes are known.
+/// Writes a file whose bytes are known: they take their room at once, so none is taken before.
 pub fn write(path: &Path, replace: bool, bytes: &[u8]) -> Result<(), Trouble> {
-    Target::new(path, replace, bytes.len())?.write(bytes)
+    Target::new(path, replace, 0)?.write(bytes)
 }
 
 /// Where a file is to be written. The draft is there from the start, with all its room, its owner,

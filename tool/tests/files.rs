@@ -35,6 +35,8 @@ fn never_over_a_file_unless_asked() {
         "make dump --dump dump",
         "export in old",
         "import in dump old",
+        "list in --out old",
+        "list in --out in",
     ] {
         bench.tool(line).wrote_nothing("--replace");
     }
@@ -119,6 +121,10 @@ fn what_is_no_file_is_not_read() {
         bench.tool(&format!("show {name}")).failed(words);
         bench.tool(&format!("check {name}")).failed(words);
         bench.tool(&format!("compare in {name}")).failed(words);
+        bench.tool(&format!("list {name}")).failed(words);
+        bench
+            .tool(&format!("list --part {name} --from 0"))
+            .failed(words);
         let judged = bench.tool(&format!("judge in 30 {name}"));
         assert_eq!(judged.exit, Some(2));
         judged.complained(words);
@@ -129,6 +135,7 @@ fn what_is_no_file_is_not_read() {
             format!("export {name} out"),
             format!("import in {name} out"),
             format!("wake {name} out"),
+            format!("list {name} --out out"),
         ] {
             bench.tool(&line).wrote_nothing(words);
         }
@@ -148,6 +155,8 @@ fn a_full_disk() {
         "run in 99999999999999 in --replace",
         "run in 99999999999999 new",
         "export in new",
+        "list in --bytes 0..FFFF --out new",
+        "list in --bytes 0..FFFF --out old --replace",
     ] {
         bench
             .shell(&format!("{full} {line}"))
@@ -221,6 +230,8 @@ fn the_draft_is_made_first() {
 fn standard_output_that_fails() {
     let bench = bench("stdout");
     let answer = bench.shell("exec \"$TOOL\" show in > /dev/full");
+    answer.failed("standard output");
+    let answer = bench.shell("exec \"$TOOL\" list in > /dev/full");
     answer.failed("standard output");
     let answer = bench.shell("exec \"$TOOL\" run in 30 out > /dev/full");
     answer.failed("; ran 30 cycles in 16 steps, wrote out\n");

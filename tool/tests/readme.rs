@@ -13,7 +13,7 @@ fn the_readme_tells_the_truth() {
         1, 0, 0, 0, 14, 0, 0, 0, 0, 0, 0, 0, 0, 0, 0, 0, 0, 0, 0, 0, 1, 0, 0,
     ];
     bench.put("stops.img", &image(&zero, &memory(&[(0, &stop)])));
-    assert_eq!(holds(include_str!("../README.md"), &bench), 16);
+    assert_eq!(holds(include_str!("../README.md"), &bench), 17);
 }
 
 /// The commands of docs/scores.md: two units that disagree about 199 and 1.
@@ -24,4 +24,81 @@ fn the_page_about_scores_tells_the_truth() {
     bench.put("unit-1.img", &worked_after());
     bench.put("unit-2.img", &with_a_letter());
     assert_eq!(holds(include_str!("../../docs/scores.md"), &bench), 3);
+}
+
+/// Bytes among zeros.
+fn among_zeros(length: usize, parts: &[(usize, &[u8])]) -> Vec<u8> {
+    let mut bytes = vec![0; length];
+    for (at, part) in parts {
+        bytes[*at..at + part.len()].copy_from_slice(part);
+    }
+    bytes
+}
+
+/// A cartridge made by hand: entry point, header with right sums, a program with a table in it.
+fn game() -> Vec<u8> {
+    among_zeros(
+        32_768,
+        &[
+            (0x0100, &[0x00, 0xC3, 0x50, 0x01]),
+            (0x0104, &[0xCE, 0xED, 0x66, 0x66, 0xCC, 0x0D, 0x00, 0x0B]),
+            (0x0134, b"BENCH"),
+            (0x014D, &[0x87, 0x10, 0x21]),
+            // LD SP,$FFFE; CALL $0160; LD HL,$015B; JR $0159; the table; XOR A,A and so on.
+            (0x0150, &[0x31, 0xFE, 0xFF, 0xCD, 0x60, 0x01]),
+            (0x0156, &[0x21, 0x5B, 0x01, 0x18, 0xFE]),
+            (0x015B, &[0xD3, 0x10, 0x07, 0x09, 0x3E]),
+            (0x0160, &[0xAF, 0xE0, 0x80, 0xC9]),
+            (0x7FFF, &[0xC3]),
+        ],
+    )
+}
+
+/// Four banks, as the header says: its size is 1 and its sum right.
+fn four_banks() -> Vec<u8> {
+    let header: [(usize, &[u8]); 3] = [(0x0134, b"BENCH"), (0x0148, &[1]), (0x014D, &[0x86])];
+    let bank_3: [(usize, &[u8]); 1] = [(0xC000, &[0x3E, 0x03, 0xC9])];
+    among_zeros(65_536, &[&header[..], &bank_3[..]].concat())
+}
+
+/// The commands of docs/listing.md.
+#[test]
+fn the_page_about_listings_tells_the_truth() {
+    let bench = Bench::new("listings");
+    bench.put("game.gb", &game());
+    bench.put("four.gb", &four_banks());
+    bench.put("patch.bin", &[0x3E, 0x01, 0xE0, 0x80, 0xC9]);
+    let page = include_str!("../../docs/listing.md");
+    assert_eq!(holds(page, &bench), 14);
+    // The page's first lines are document 02's, and stand there before any command.
+    bench.put("example", &[0x20, 0xF8, 0xD3]);
+    let example = bench.tool("list --part example --from 0150").done();
+    let shown: String = example
+        .lines()
+        .map(|line| format!("    {line}\n"))
+        .collect();
+    assert_eq!(page.matches(&shown).count(), 1);
+}
+
+/// The operands that the page has in its table are written so.
+#[test]
+fn the_table_of_operands_tells_the_truth() {
+    let bench = Bench::new("operands");
+    let page = include_str!("../../docs/listing.md");
+    let shown: [(&[u8], &str); 8] = [
+        (&[0x3E, 0x05], "LD A,$05"),
+        (&[0xC3, 0x50, 0x01], "JP $0150"),
+        (&[0x18, 0xFE], "JR $0159"),
+        (&[0xE0, 0x80], "LDH [$FF80],A"),
+        (&[0xE8, 0xFB], "ADD SP,-$05"),
+        (&[0xF8, 0xFB], "LD HL,SP+-$05"),
+        (&[0xCF], "RST $08"),
+        (&[0xCB, 0x7C], "BIT 7,H"),
+    ];
+    for (bytes, spelling) in shown {
+        bench.put("part", bytes);
+        let listed = bench.tool("list --part part --from 0159").done();
+        assert!(listed.ends_with(&format!(" {spelling}\n")), "{listed}");
+        assert!(page.contains(&format!("`{spelling}`")), "{spelling}");
+    }
 }

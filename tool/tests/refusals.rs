@@ -270,7 +270,7 @@ fn the_help() {
     let bench = Bench::new("help");
     let help = bench.tool("--help").done();
     for name in [
-        "make", "show", "check", "run", "compare", "judge", "export", "import", "wake",
+        "make", "show", "check", "run", "compare", "judge", "export", "import", "list", "wake",
     ] {
         assert!(
             help.contains(&format!("\ntrnadulek-tool {name} ")),
@@ -286,6 +286,11 @@ fn the_help() {
         "--score",
         "--all",
         "--at",
+        "--part",
+        "--from",
+        "--lines",
+        "--bank",
+        "--out",
     ] {
         assert!(help.contains(word) && readme.contains(word), "{word}");
     }

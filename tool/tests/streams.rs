@@ -29,6 +29,8 @@ fn every_command_reads_standard_input() {
     assert_eq!(bench.get("put")[23 + 0xC000], 0x77);
     bench.fed("export - out --bytes 0150..0159", &whole).done();
     assert_eq!(bench.get("out"), ADDING);
+    let listed = bench.fed("list - --lines 1", &whole).done();
+    assert_eq!(listed, "0150 A7 AND A,A\n");
 }
 
 #[test]

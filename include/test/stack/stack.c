@@ -15,6 +15,8 @@ static uint8_t head[TRNADULEK_HEAD_SIZE];
 static uint8_t memory[TRNADULEK_MEMORY_SIZE];
 static uint8_t image[TRNADULEK_IMAGE_SIZE];
 static uint8_t state[TRNADULEK_STATE_SIZE];
+static uint8_t part[TRNADULEK_MEMORY_SIZE];
+static uint8_t text[TRNADULEK_MEMORY_SIZE * TRNADULEK_LISTING_PER_BYTE];
 static ucontext_t here;
 
 static void nothing(void) {}
@@ -49,10 +51,31 @@ static void save_and_load(void)
     trnadulek_load_head(head, sizeof head, state);
 }
 
+/* Every byte before and behind many others. */
+static void fill_part(void)
+{
+    size_t at;
+    for (at = 0; at < sizeof part; at++) {
+        part[at] = (at * 7 + at / 256) & 0xFF;
+    }
+}
+
+static void list(void)
+{
+    size_t length;
+    trnadulek_list(part, sizeof part, 0, text, sizeof text, &length);
+}
+
+static void list_refused(void)
+{
+    size_t length;
+    trnadulek_list(part, sizeof part, 0, text, 1, &length);
+}
+
 static void ask(void)
 {
-    char text[TRNADULEK_LONGEST_WORDS + 1];
-    trnadulek_text(TRNADULEK_LENGTH, text);
+    char words[TRNADULEK_LONGEST_WORDS + 1];
+    trnadulek_text(TRNADULEK_LENGTH, words);
     trnadulek_length(0xCB);
     trnadulek_untaken_cycles(0xCB);
     trnadulek_size(3);
@@ -89,11 +112,14 @@ int main(void)
     size_t entry = used_by(nothing);
     int good = 1;
     save_and_open();
+    fill_part();
     good &= within("a run of the largest budget", run, entry);
     good &= within("the same of an image", run_image, entry);
     good &= within("a step", step, entry);
     good &= within("an image saved and opened", save_and_open, entry);
     good &= within("a head saved and loaded", save_and_load, entry);
+    good &= within("a listing of 65,536 bytes", list, entry);
+    good &= within("a listing that is refused", list_refused, entry);
     good &= within("a question", ask, entry);
     return good ? 0 : 1;
 }

@@ -5,6 +5,7 @@ mod compare;
 mod export;
 mod import;
 mod judge;
+mod list;
 mod make;
 mod run;
 mod show;
@@ -31,7 +32,7 @@ pub struct Command {
     carry_out: fn(Given) -> Result<Report, Trouble>,
 }
 
-const ALL: [Command; 9] = [
+const ALL: [Command; 10] = [
     make::COMMAND,
     show::COMMAND,
     check::COMMAND,
@@ -40,6 +41,7 @@ const ALL: [Command; 9] = [
     judge::COMMAND,
     export::COMMAND,
     import::COMMAND,
+    list::COMMAND,
     wake::COMMAND,
 ];
 

@@ -1,0 +1,59 @@
+#[cfg(feature = "std")]
+use std::{string::String, vec};
+
+use crate::link;
+use crate::refusal::Refusal;
+
+/// The most bytes of text that a listing has for each byte listed: room of the part's length times
+/// this is always enough.
+pub const LISTING_PER_BYTE: usize = 19;
+
+/// Lists a part of a program as text, one line an instruction. The part's first byte has the address
+/// `first`. The text is at the front of `out`, and its length is the answer; the bytes of `out` past
+/// it are unchanged.
+///
+/// A line is four digits of the address, a space, the bytes, a space, the instruction and a line
+/// feed. Every byte stands in one line. One that begins no instruction is data, `DB`: an undefined
+/// opcode, a `$10` that no `$00` follows, and the first byte of an instruction that the part's end
+/// cuts; the next byte is read afresh then. Addresses count modulo 65,536. The text is ASCII.
+///
+/// # Errors
+///
+/// Refused exactly where `out` is too short for the whole text; then it is unchanged. Room of exactly
+/// the text's length is enough, and so is [`LISTING_PER_BYTE`] for each byte of the part.
+///
+/// ```
+/// use trnadulek::{list, Refusal};
+///
+/// let mut out = [b'.'; 40];
+/// let length = list(&[0x20, 0xF8, 0xD3], 0x0150, &mut out)?;
+/// assert_eq!(&out[..length], b"0150 20F8 JR NZ,$014A\n0152 D3 DB $D3\n");
+/// assert_eq!(&out[length..], b"...");
+///
+/// assert_eq!(list(&[0x20, 0xF8, 0xD3], 0x0150, &mut out[..36]), Err(Refusal::Room));
+/// # Ok::<(), Refusal>(())
+/// ```
+pub fn list(part: &[u8], first: u16, out: &mut [u8]) -> Result<usize, Refusal> {
+    let mut length = 0;
+    Refusal::judge(link::list(part, first, out, &mut length))?;
+    Ok(length)
+}
+
+/// The text that [`list`] writes, as a string. This needs the feature `std`.
+///
+/// # Panics
+///
+/// Where there is no memory for [`LISTING_PER_BYTE`] times the part's length, as any vector does.
+///
+/// ```
+/// use trnadulek::listing;
+///
+/// assert_eq!(listing(&[0x00, 0xC3, 0x50, 0x01], 0x0100), "0100 00 NOP\n0101 C35001 JP $0150\n");
+/// ```
+#[cfg(feature = "std")]
+pub fn listing(part: &[u8], first: u16) -> String {
+    let mut text = vec![0; part.len().saturating_mul(LISTING_PER_BYTE)];
+    let length = list(part, first, &mut text).expect("the bound is room for every text");
+    text.truncate(length);
+    String::from_utf8(text).expect("a listing is ASCII")
+}

@@ -1,0 +1,97 @@
+//! Cartridges as they are listed: bank by bank where there are more banks than the processor sees.
+
+use crate::listing::{Part, Which};
+use crate::words;
+
+const BANK: usize = 16_384;
+
+/// The processor sees two banks at a time.
+const TWO_BANKS: usize = 2 * BANK;
+
+/// Where it sees every bank but bank 0.
+const SWITCHED: u16 = 0x4000;
+
+/// No cartridge of these consoles has a higher one.
+pub const LAST_BANK: usize = 511;
+
+pub const LARGEST: usize = (LAST_BANK + 1) * BANK;
+
+pub struct Cartridge<'a>(pub &'a [u8]);
+
+impl Cartridge<'_> {
+    /// The lines, or the words for what is not there.
+    pub fn text(&self, which: &Which, bank: Option<usize>) -> Result<String, String> {
+        match (bank, which) {
+            (Some(number), _) => self.bank(number)?.text(which),
+            (None, _) if self.0.len() <= TWO_BANKS => Part::new(self.0, 0).text(which),
+            (None, Which::All) => self.bank_by_bank(),
+            (None, _) => {
+                self.keep_to_bank_0(which)?;
+                self.bank(0)?.text(which)
+            }
+        }
+    }
+
+    fn last_bank(&self) -> usize {
+        self.0.chunks(BANK).count() - 1
+    }
+
+    fn bank(&self, number: usize) -> Result<Part<'_>, String> {
+        let bytes = self.0.chunks(BANK).nth(number);
+        let first = if number == 0 { 0 } else { SWITCHED };
+        bytes.map(|bytes| Part::new(bytes, first)).ok_or_else(|| {
+            let last = self.last_bank();
+            format!("there is no bank {number}, only banks 0 to {last}")
+        })
+    }
+
+    /// Each under a heading, with an empty line between them.
+    fn bank_by_bank(&self) -> Result<String, String> {
+        let banks = (0..=self.last_bank()).map(|number| {
+            let bank = self.bank(number)?;
+            let lines = bank.text(&Which::All)?;
+            Ok(format!("bank {number}: {}\n{lines}", bank.place()))
+        });
+        let banks: Vec<String> = banks.collect::<Result<_, String>>()?;
+        Ok(banks.join("\n"))
+    }
+
+    /// An address above bank 0 is one in each of the others.
+    fn keep_to_bank_0(&self, which: &Which) -> Result<(), String> {
+        let asked = match which {
+            Which::All => None,
+            Which::Lines { from, .. } => from.map(usize::from),
+            Which::Bytes(ranges) => ranges.iter().map(|range| range.end - 1).max(),
+        };
+        match asked {
+            Some(address) if address >= usize::from(SWITCHED) => Err(format!(
+                "${address:04X} is not in bank 0; --bank says which of banks 1 to {} is meant",
+                self.last_bank()
+            )),
+            _ => Ok(()),
+        }
+    }
+}
+
+/// Whether the length is one that cartridges have: up to two banks of any length, or whole banks.
+pub fn is_length(length: usize) -> bool {
+    let whole_banks = length <= LARGEST && length % BANK == 0;
+    length > 0 && (length <= TWO_BANKS || whole_banks)
+}
+
+/// Whether the header of a cartridge says four banks, which have as many bytes as a memory: a console
+/// takes no header whose own sum is wrong.
+pub fn says_four_banks(bytes: &[u8]) -> bool {
+    const SIZE: usize = 0x0148;
+    const FOUR_BANKS: u8 = 1;
+    const SUM: usize = 0x014D;
+    let less = |sum: u8, byte: &u8| sum.wrapping_sub(*byte).wrapping_sub(1);
+    let sum = bytes[0x0134..SUM].iter().fold(0, less);
+    bytes[SIZE] == FOUR_BANKS && bytes[SUM] == sum
+}
+
+/// What was found where a cartridge was wanted.
+pub fn wrong_length(found: &str) -> String {
+    let most = words::grouped(LARGEST as u64);
+    format!("found {found} bytes, wanted a cartridge of 1 to {most}")
+}

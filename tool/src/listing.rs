@@ -1,0 +1,105 @@
+//! What the proved core lists of some bytes: all of it, so many lines, or some addresses.
+
+use std::ops::Range;
+
+use trnadulek::listing;
+
+use crate::words;
+
+/// No instruction has more bytes.
+const LONGEST: usize = 3;
+
+/// How many lines are enough to see where one is.
+pub const ENOUGH: usize = 20;
+
+/// Which lines are asked for.
+pub enum Which {
+    All,
+    /// So many, from an address on or from where such a listing starts by itself.
+    Lines {
+        from: Option<u16>,
+        count: usize,
+    },
+    /// Of the instructions that begin in one of these.
+    Bytes(Vec<Range<usize>>),
+}
+
+/// Bytes that follow one another, with their addresses.
+pub struct Part<'a> {
+    bytes: &'a [u8],
+    first: u16,
+    /// Where lines start if no address is given.
+    start: u16,
+    /// Whether its first byte comes after its last, as in a whole memory.
+    round: bool,
+}
+
+impl<'a> Part<'a> {
+    pub fn new(bytes: &'a [u8], first: u16) -> Self {
+        Part {
+            bytes,
+            first,
+            start: first,
+            round: false,
+        }
+    }
+
+    /// All 65,536 bytes, lines starting at an address.
+    pub fn memory(bytes: &'a [u8], start: u16) -> Self {
+        Part {
+            bytes,
+            first: 0,
+            start,
+            round: true,
+        }
+    }
+
+    /// The lines, or the words for an address that is not there.
+    pub fn text(&self, which: &Which) -> Result<String, String> {
+        match which {
+            Which::All => Ok(listing(self.bytes, self.first)),
+            Which::Lines { from, count } => self.lines(from.unwrap_or(self.start), *count),
+            Which::Bytes(ranges) => ranges.iter().map(|range| self.begun_in(range)).collect(),
+        }
+    }
+
+    pub fn place(&self) -> String {
+        let first = usize::from(self.first);
+        words::place(first, first + self.bytes.len())
+    }
+
+    fn lines(&self, from: u16, count: usize) -> Result<String, String> {
+        let at = self.index(usize::from(from))?;
+        let after: &[u8] = if self.round { self.bytes } else { &[] };
+        let bytes = self.bytes[at..].iter().chain(after.iter().cycle());
+        let enough: Vec<u8> = bytes.take(count * LONGEST).copied().collect();
+        let text = listing(&enough, from);
+        Ok(text.split_inclusive('\n').take(count).collect())
+    }
+
+    /// The instructions that begin in a range of addresses, each of them whole.
+    fn begun_in(&self, range: &Range<usize>) -> Result<String, String> {
+        let (at, last) = (self.index(range.start)?, self.index(range.end - 1)?);
+        let enough = self.bytes.len().min(last + LONGEST);
+        let text = listing(&self.bytes[at..enough], range.start as u16);
+        let mut next = at;
+        let begun = text.split_inclusive('\n').take_while(|line| {
+            let begins = next;
+            next += byte_count(line);
+            begins <= last
+        });
+        Ok(begun.collect())
+    }
+
+    /// Where the byte of an address is.
+    fn index(&self, address: usize) -> Result<usize, String> {
+        let index = address.checked_sub(usize::from(self.first));
+        let index = index.filter(|index| *index < self.bytes.len());
+        index.ok_or_else(|| format!("there is no ${address:04X}, only {}", self.place()))
+    }
+}
+
+/// How many bytes a line is for: its second word has two digits for each.
+fn byte_count(line: &str) -> usize {
+    line.split(' ').nth(1).map_or(0, str::len) / 2
+}
