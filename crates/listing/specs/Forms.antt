@@ -1,4 +1,4 @@
--- How the code spells: by a table with a form of ten characters for each kind of spelling, in which marks stand for the operands.
+-- How the code spells: by a table with a form of nine characters for each kind of spelling, in which marks stand for the operands.
 -- Assumes nothing.
 use Prim.Native.Nat.{ℕ, _+_, _*_, _/_, _%_, _<_, _≤_}
 use Prim.Native.String.{String}
@@ -72,7 +72,7 @@ marksText o marks = joined (markText o) marks
 
 -- a form out of the table
 unfoldable pub formIn : ℕ → List ℕ → List ℕ
-formIn form table = take 10 (drop (form * 10) table)
+formIn form table = take 9 (drop (form * 9) table)
 
 -- the byte whose fields name the operands: that after the prefix $CB, where there is one
 unfoldable pub fieldsIf : Bool → ℕ → ℕ → ℕ
@@ -142,7 +142,7 @@ forms = tt
 
 -- a table that spells each instruction, and a byte of data
 pub record Forms (table : List ℕ) : Type 0 where
-  pub size : length table ≡ 500
+  pub size : length table ≡ 450
   pub spell : (op n w next : ℕ) → op < 256 → n < 256 → isUndefined (decodeOf op n w) ≡ false
       → marksText (operands op n w next) (formIn (formAt op n) table) ≡ spellingText next (spellingOf (decodeOf op n w))
   pub data-byte : (b next : ℕ) → marksText (operands 0 b 0 0) (formIn dataForm table) ≡ spellingText next (dataOf b)

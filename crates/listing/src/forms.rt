@@ -8,17 +8,16 @@ ghost use lib.ListN.{length};
 ghost use Rattle.listing.specs.Forms.{nameIn, registerText, namedText, markText, marksText, formIn};
 ghost use Rattle.listing.specs.Written.{Reaches, cursor, written};
 
-// Ten characters a form: 29 of one byte, the last of them that of data, then 13 of two bytes and 8 of three. A small letter is a mark,
-// and points fill a form up.
+// Nine characters a form: 29 of one byte, the last of them that of data, then 13 of two bytes and 8 of three. A small letter is a mark,
+// and points fill a form up. The pair of LD HL,SP+e8 is named by the opcode's own field.
 #[rattlefmt::skip]
-pub(crate) const FORMS: [u8; 500] = *b"\
-    NOP.......ADD HL,p..LD [t],A..LD A,[t]..INC p.....DEC p.....INC y.....DEC y.....\
-    LD y,z....oA........DAA.......CPL.......SCF.......CCF.......HALT......a A,z.....\
-    RET c.....POP q.....RET.......RETI......JP HL.....LD SP,HL..LDH [C],A.LDH A,[C].\
-    DI........EI........PUSH q....RST v.....DB b......\
-    STOP......JR j......JR c,j....LD y,b....LDH [h],A.ADD SP,e..LDH A,[h].LD HL,SP+e\
-    a A,b.....o z.......BIT k,z...RES k,z...SET k,z...\
-    LD [w],SP.LD p,w....JP c,w....LD [w],A..LD A,[w]..JP w......CALL c,w..CALL w....";
+pub(crate) const FORMS: [u8; 450] = *b"\
+    NOP......ADD HL,p.LD [t],A.LD A,[t].INC p....DEC p....INC y....DEC y....LD y,z...oA.......\
+    DAA......CPL......SCF......CCF......HALT.....a A,z....RET c....POP q....RET......RETI.....\
+    JP HL....LD SP,HL.LDH [C],ALDH A,[C]DI.......EI.......PUSH q...RST v....DB b.....\
+    STOP.....JR j.....JR c,j...LD y,b...LDH [h],AADD SP,e.LDH A,[h]LD HL,p+ea A,b....o z......\
+    BIT k,z..RES k,z..SET k,z..\
+    LD [w],SPLD p,w...JP c,w...LD [w],A.LD A,[w].JP w.....CALL c,w.CALL w...";
 
 // A name out of names of four characters.
 fn name(names: &[u8], k: usize, at: usize, out: &mut [u8]) -> usize
@@ -89,10 +88,10 @@ fn marks(o: Operands, form: &[u8], at: usize, out: &mut [u8]) -> usize
 
 // The spelling by a form of a table.
 pub(crate) fn spelling(table: &[u8], form: usize, o: Operands, at: usize, out: &mut [u8]) -> usize
-    requires { ⌜ form * 10 + 10 ≤ length (now table) ⌝ }
+    requires { ⌜ form * 9 + 9 ≤ length (now table) ⌝ }
     ensures { λ r. ⌜ Reaches (written (marksText o (formIn form (now (table .entry)))) (cursor at (now (out .entry)))) r (now (out .exit)) ⌝ }
 {
-    let from = form * 10;
-    let to = from + 10;
+    let from = form * 9;
+    let to = from + 9;
     marks(o, &table[from..to], at, out)
 }
