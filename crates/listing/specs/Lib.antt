@@ -4,3 +4,4 @@ pub mod Lines
 pub mod Answer
 pub mod Written
 pub mod Forms
+pub mod Paper

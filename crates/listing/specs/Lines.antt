@@ -79,3 +79,8 @@ listingOf first part = joined lineText (linesOf first part)
 -- the most characters for each byte listed (the law `listing-most`), by which a host makes room
 abbrev pub mostListed : ℕ
 mostListed = 19
+
+-- opens the lines in a proof
+unfoldable pub lines : Unit {0}
+unfolding insnIn sizeIn isData lineIf lineOf linesFrom linesOf joined bytesText lineText listingOf
+lines = tt

@@ -1,0 +1,50 @@
+-- Where a line is data, how many bytes a line has, and that they are those that the decoder takes.
+-- Assumes nothing.
+use Prim.Native.Nat.{ℕ, _+_, _-_, _≤_, _<_}
+use mathlib.Core.Bool.{Bool, true, false, _||_, _&&_, not}
+use mathlib.Core.List.{List, []}
+use mathlib.Core.Path.{_≡_, refl}
+use native.Mathlib.Omega.{arith}
+use lib.Dec.{eqb, ltb}
+use lib.ListN.{length, take}
+use Rattle.arith.specs.Words.{wordOf, further}
+use Rattle.digits.specs.Digits.{byteIn}
+use Rattle.insn.specs.Grid.{decodeOf}
+use Rattle.insn.specs.Shapes.{shapeOf, isUndefined, shapedOf, decodedOf}
+use Rattle.insn.specs.declared.Decoded.{Decoded}
+use Rattle.insn.proofs.Laws.{undefinedBytes, among, undefined-bytes}
+use Rattle.listing.specs.Spelling.{spellingOf, dataOf, spellingText}
+use Rattle.listing.specs.Lines.{Line, insnIn, sizeIn, isData, lineIf, lineOf}
+use Rattle.listing.proofs.Order.{counted, size-some}
+
+pub line-size : (a : ℕ) (bytes : List ℕ) → 0 < length bytes
+    → (1 ≤ length (lineOf a bytes .bytes)) × (length (lineOf a bytes .bytes) ≤ 3)
+line-size a bytes h = let c = counted a bytes h in (c .some, c .few)
+
+-- one of the eleven undefined bytes, an instruction cut by the end, a $10 not followed by $00
+pub data-exactly : (bytes : List ℕ) → byteIn 0 bytes < 256 → byteIn 1 bytes < 256
+    → isData bytes
+    ≡ (among undefinedBytes (byteIn 0 bytes)
+    || (ltb (length bytes) (sizeIn bytes) || (eqb (byteIn 0 bytes) 0x10 && not (eqb (byteIn 1 bytes) 0x00))))
+unfolding isData insnIn
+data-exactly bytes first second =
+    rw (undefined-bytes (byteIn 0 bytes) (byteIn 1 bytes) (wordOf (byteIn 2 bytes) (byteIn 1 bytes)) first second) refl
+
+-- such a line has the one byte, and spells it as data
+pub data-line : (a : ℕ) (bytes : List ℕ) → isData bytes ≡ true
+    → lineOf a bytes
+    ≡ record { address = a; bytes = take 1 bytes; spelling = spellingText (further 1 a) (dataOf (byteIn 0 bytes)) }
+unfolding lineOf lineIf
+data-line a bytes e = rw e
+
+-- any other has the bytes that the decoder takes, and spells what it decodes
+pub decoded-bytes : (a : ℕ) (bytes : List ℕ) → isData bytes ≡ false
+    → (lineOf a bytes .bytes ≡ take (decodedOf (byteIn 0 bytes) (byteIn 1 bytes) (wordOf (byteIn 2 bytes) (byteIn 1 bytes)) .more + 1) bytes)
+    × (lineOf a bytes .spelling
+    ≡ spellingText (further (sizeIn bytes) a)
+    (spellingOf (decodedOf (byteIn 0 bytes) (byteIn 1 bytes) (wordOf (byteIn 2 bytes) (byteIn 1 bytes)) .insn)))
+unfolding lineOf lineIf sizeIn insnIn decodedOf shapedOf
+decoded-bytes a bytes e =
+    let some = size-some bytes e in
+    let back : shapeOf (insnIn bytes) .bytes - 1 + 1 ≡ sizeIn bytes = omega arith in
+    (rw (e, back), rw e)
