@@ -9,7 +9,6 @@ use lib.ListN.{length, drop}
 use Rattle.digits.proofs.Places.{ByteList}
 use Rattle.listing.specs.Lines.{listingOf, mostListed}
 use Rattle.listing.specs.Answer.{listIf, listOf}
-use Rattle.listing.specs.declared.Listed.{Listed}
 use Rattle.listing.proofs.Room.{listing-most}
 
 module _ (first : ℕ) (part out : List ℕ) where

@@ -1,20 +1,18 @@
 -- Where a line is data, how many bytes a line has, and that they are those that the decoder takes.
 -- Assumes nothing.
 use Prim.Native.Nat.{ℕ, _+_, _-_, _≤_, _<_}
-use mathlib.Core.Bool.{Bool, true, false, _||_, _&&_, not}
-use mathlib.Core.List.{List, []}
+use mathlib.Core.Bool.{true, false, _||_, _&&_, not}
+use mathlib.Core.List.{List}
 use mathlib.Core.Path.{_≡_, refl}
 use native.Mathlib.Omega.{arith}
 use lib.Dec.{eqb, ltb}
 use lib.ListN.{length, take}
 use Rattle.arith.specs.Words.{wordOf, further}
 use Rattle.digits.specs.Digits.{byteIn}
-use Rattle.insn.specs.Grid.{decodeOf}
-use Rattle.insn.specs.Shapes.{shapeOf, isUndefined, shapedOf, decodedOf}
-use Rattle.insn.specs.declared.Decoded.{Decoded}
+use Rattle.insn.specs.Shapes.{shapeOf, shapedOf, decodedOf}
 use Rattle.insn.proofs.Laws.{undefinedBytes, among, undefined-bytes}
 use Rattle.listing.specs.Spelling.{spellingOf, dataOf, spellingText}
-use Rattle.listing.specs.Lines.{Line, insnIn, sizeIn, isData, lineIf, lineOf}
+use Rattle.listing.specs.Lines.{insnIn, sizeIn, isData, lineIf, lineOf}
 use Rattle.listing.proofs.Order.{counted, size-some}
 
 pub line-size : (a : ℕ) (bytes : List ℕ) → 0 < length bytes

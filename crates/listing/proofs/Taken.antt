@@ -1,6 +1,6 @@
 -- What an opcode's form says is what the line says: where it is data, how many bytes it has, and what spells it.
 -- Assumes nothing.
-use Prim.Native.Nat.{ℕ, _+_, _≤_, _<_}
+use Prim.Native.Nat.{ℕ, _≤_, _<_}
 use mathlib.Core.Bool.{Bool, true, false, _||_}
 use mathlib.Core.List.{List}
 use mathlib.Core.Path.{_≡_, refl, sym}
@@ -15,7 +15,6 @@ use Rattle.insn.specs.Shapes.{shapes, shapeOf, isUndefined}
 use Rattle.listing.specs.Spelling.{spellingOf, spellingText}
 use Rattle.listing.specs.Lines.{insnIn, sizeIn, isData, lineIf, lineOf, lineText}
 use Rattle.listing.specs.Forms.{marksText, formIn, operands, forms, dataForm, formAt, formSize, Forms, isDataBy, Reads}
-use Rattle.listing.specs.declared.Reading.{Reading}
 use Rattle.listing.proofs.Opcodes.{each-opcode}
 use Rattle.listing.proofs.Order.{or-left, whole}
 use Rattle.listing.proofs.Short.{line-short}

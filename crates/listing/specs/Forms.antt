@@ -1,7 +1,6 @@
 -- How the code spells: by a table with a form of nine characters for each kind of spelling, in which marks stand for the operands.
 -- Assumes nothing.
 use Prim.Native.Nat.{ℕ, _+_, _*_, _/_, _%_, _<_, _≤_}
-use Prim.Native.String.{String}
 use mathlib.Core.Bool.{Bool, true, false, _||_, _&&_, not}
 use mathlib.Core.List.{List, [], _∷_}
 use mathlib.Core.Path.{_≡_}

@@ -30,7 +30,8 @@ use Rattle.insn.specs.declared.Cond.the-variants as cond
 use Rattle.insn.specs.declared.Insn.{Insn}
 use Rattle.insn.specs.declared.Insn.the-variants.{Nop, StoreSp, Stop, Jr, JrIf, LoadPair, AddHl, StoreAt, LoadAt, IncPair, DecPair, Inc, Dec, Load, RotateA, Daa, Cpl, Scf, Ccf, Halt, Math, RetIf, StoreHigh, AddSp, LoadHigh, LoadHlSp, Pop, Ret, Reti, JumpHl, LoadSpHl, JumpIf, StoreHighC, StoreTo, LoadHighC, LoadFrom, Jump, Rotate, Bit, Res, Set, Di, Ei, CallIf, Push, Call, Rst, Undefined}
 
--- an operand, by its kind: a name, or a constant with what stands around it
+-- an operand, by its kind as the reference's headings have it: the name of a register, a pair or a condition, or the place that one
+-- leads to; n8; n16; [n16]; [n16] of LDH, by its low byte; e8; SP+e8; the e8 of JR, which leads to a target; u3; vec
 pub data Shown : Type 0 where
   Named : String → Shown
   N8 : ℕ → Shown

@@ -7,7 +7,6 @@ use mathlib.Core.List.{List}
 use mathlib.Core.Path.{_≡_}
 use Rattle.arith.specs.Refusals.{unlessRefused}
 use Rattle.listing.specs.Answer.{Answer}
-use Rattle.listing.specs.declared.Listed.{Listed}
 use Rattle.machine.specs.Memory.{Memory}
 use Rattle.machine.specs.Answers.{With}
 use Rattle.machine.specs.Step.{stepOf}

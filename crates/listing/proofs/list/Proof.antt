@@ -11,7 +11,7 @@ use Rattle.insn.specs.Grid.{grid, decodeOf}
 use Rattle.insn.specs.Shapes.{shapes, isUndefined}
 use Rattle.listing.specs.Spelling.{spellings, spellingOf, spellingText}
 use Rattle.listing.specs.Lines.{joined}
-use Rattle.listing.specs.Forms.{textIf, marksText, formIn, operands, forms, formAt, Forms}
+use Rattle.listing.specs.Forms.{textIf, marksText, formIn, operands, forms, formAt}
 use Rattle.listing.proofs.Opcodes.{each-opcode}
 use Rattle.listing.proofs.list.Statement.{statement}
 use Rattle.listing.proofs.list.Tie as tie

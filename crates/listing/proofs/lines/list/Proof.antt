@@ -1,7 +1,7 @@
 -- `list` measures the text, and writes it where there is room.
 use Prim.Native.Nat.{ℕ, _≤_}
 use borrow.Author.Needs.{needs}
-use borrow.Author.Tests.{le-leb, leb-true, leb-false}
+use borrow.Author.Tests.{le-leb, leb-true}
 use mathlib.Core.Bool.{Bool, true, false}
 use mathlib.Core.List.{List}
 use mathlib.Core.Path.{_≡_, refl, sym, _∙_, ap}
@@ -12,7 +12,6 @@ use Rattle.listing.specs.Lines.{listingOf}
 use Rattle.listing.specs.Answer.{Lists, listIf, listOf}
 use Rattle.listing.specs.Forms.{measuredIf, measuredOf}
 use Rattle.listing.specs.Written.{cursor, written, Reaches}
-use Rattle.listing.specs.declared.Listed.{Listed}
 use Rattle.listing.specs.declared.Measured.the-variants.{Fits, TooLong}
 use Rattle.listing.proofs.Texts.{written-front}
 use Rattle.listing.proofs.lines.list.Statement.{statement}

@@ -4,10 +4,10 @@ use Prim.Native.Nat.{ℕ, _+_, _-_, _≤_, _<_}
 use borrow.Author.Needs.{needs}
 use borrow.Author.Tests.{le-leb, lt-leb}
 use mathlib.Core.List.{List}
-use mathlib.Core.Path.{_≡_, refl}
+use mathlib.Core.Path.{_≡_}
 use native.Mathlib.Nat.{zero-add}
 use native.Mathlib.Omega.{arith}
-use lib.ListN.{length, drop, drop-of-length-le, length-append}
+use lib.ListN.{length, drop-of-length-le, length-append}
 use Rattle.arith.specs.Words.{further}
 use Rattle.arith.proofs.Laws.{further-below}
 use Rattle.listing.specs.Lines.{linesFrom, linesOf, joined, lineText, listingOf}

@@ -4,7 +4,7 @@ use borrow.Author.Needs.{needs}
 use mathlib.Core.List.{List}
 use mathlib.Core.Path.{_≡_, refl, sym, _∙_}
 use native.Mathlib.Omega.{arith}
-use lib.ListN.{length, drop, drop-of-length-le}
+use lib.ListN.{length, drop-of-length-le}
 use Rattle.arith.specs.Words.{further}
 use Rattle.arith.proofs.Laws.{further-below}
 use Rattle.listing.specs.Lines.{linesFrom, linesOf, joined, lineText, listingOf}

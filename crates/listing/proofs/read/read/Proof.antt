@@ -9,7 +9,6 @@ use Rattle.arith.specs.Words.{wordOf, further}
 use Rattle.digits.specs.Digits.{byteIn}
 use Rattle.listing.specs.Lines.{isData, lineOf}
 use Rattle.listing.specs.Forms.{dataForm, fieldsIf, fieldsOf, formAt, formSize, isDataBy, Reads}
-use Rattle.listing.specs.declared.Reading.{Reading}
 use Rattle.listing.proofs.Taken.{data-is, data-reads, insn-reads}
 use Rattle.listing.proofs.read.read.Statement.{statement}
 use Rattle.listing.proofs.read.read.Tie as tie
