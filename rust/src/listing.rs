@@ -43,7 +43,7 @@ pub fn list(part: &[u8], first: u16, out: &mut [u8]) -> Result<usize, Refusal> {
 ///
 /// # Panics
 ///
-/// Where there is no memory for [`LISTING_PER_BYTE`] times the part's length, as any vector does.
+/// Where [`LISTING_PER_BYTE`] times the length of the part is more than a vector can have.
 ///
 /// ```
 /// use trnadulek::listing;

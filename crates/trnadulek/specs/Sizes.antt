@@ -1,4 +1,5 @@
--- The sizes that a host can ask for, by their numbers, and the library's version. Document 01, "What the core is", "Refusal numbers" and "Saved state".
+-- The sizes that a host can ask for, by their numbers, and the library's version. Document 01, "What the core
+-- is", "Refusal numbers" and "Saved state"; document 02, M-101.
 -- Assumes nothing.
 use Prim.Native.Nat.{ℕ}
 use mathlib.Core.List.{List, [], _∷_}
