@@ -8,6 +8,11 @@ REQUESTS = "machine/specs/Interrupts.antt"
 LOW = "(lowBelow (s .sp) (s .pc) ∷ [])"
 HALTS = "machine/specs/Execute.antt"
 RETURNED = "withPc own (withIme On (withMode Running s))"
+READ = "listing/src/read.rt"
+FORMS = "listing/src/forms.rt"
+LINES = "listing/src/lines.rt"
+LINE_OF = "listing/specs/Lines.antt"
+LISTED = "listing/specs/Answer.antt"
 
 EASY = [
     Change(
@@ -129,6 +134,44 @@ INSTRUCTIONS = [
     ),
 ]
 
+LISTING = [
+    Change("an instruction that the end cuts is listed whole", (READ, "(left < size)", "(left < 1)")),
+    Change(
+        "the byte after a $10 that is data is skipped",
+        (LINE_OF, "(length (lineOf a (b ∷ bytes) .bytes) - 1) bytes", "(sizeIn (b ∷ bytes) - 1) bytes"),
+    ),
+    Change("a $10 before any byte is STOP", (READ, "(n8 != 0)", "(n8 != n8)")),
+    Change(
+        "the target of JR counts from its own address",
+        (READ, "words::further(size as u16, address)", "words::further((size / 4) as u16, address)"),
+    ),
+    Change("LDH shows its address without $FF", (FORMS, "words::word(0xFF, o.n8)", "words::word(0x00, o.n8)")),
+    Change("e8 is shown unsigned", ("listing/src/writing.rt", "if e < 0x80 {", "if e / 2 < 0x80 {")),
+    Change("digits are in lower case", ("digits/src/glyphs.rt", '"0123456789ABCDEF"', '"0123456789abcdef"')),
+    Change("digits are in lower case, by the definition", ("digits/specs/Numerals.antt", '"0123456789ABCDEF"', '"0123456789abcdef"')),
+    Change(
+        "the address of a line does not wrap",
+        (LINE_OF, "use Prim.Native.Nat.{ℕ, zero, suc, _-_}", "use Prim.Native.Nat.{ℕ, zero, suc, _-_, min}"),
+        (LINE_OF, "= linesFrom (further 1 a) few bytes", "= linesFrom (min (suc a) 0xFFFF) few bytes"),
+        (LINE_OF, "linesFrom (further 1 a) (length", "linesFrom (min (suc a) 0xFFFF) (length"),
+    ),
+    Change(
+        "one byte too few is asked of the output",
+        (LISTED, "use Prim.Native.Nat.{ℕ}", "use Prim.Native.Nat.{ℕ, suc}"),
+        (LISTED, "(leb (length (listingOf first part)) (length out))", "(leb (length (listingOf first part)) (suc (length out)))"),
+    ),
+    Change("an output just long enough is refused", (LINES, "if room - length < wide {", "if room - length <= wide {")),
+    Change(
+        "the output is written before 10 is known",
+        (LISTED, "{length, drop}", "{length, drop, take}"),
+        (LISTED, "length = 0 }; out = out }", "length = 0 }; out = take (length out) text }"),
+    ),
+    Change("a text that is too long is written as far as it goes", (LINES, "return Measured::TooLong;", "return Measured::Fits(length);")),
+    Change("the misprint of the reference, LD [HL],A for $22, is followed", (FORMS, "BC..DE..HLI.HLD.", "BC..DE..HL..HLD.")),
+    Change("a destination A is left out", (FORMS, "a A,z....", "a z......")),
+    Change("a byte needs at most 18 characters", (LINE_OF, "mostListed = 19", "mostListed = 18")),
+]
+
 CHEATS = [
     Change(
         "a step refuses every memory",
@@ -165,6 +208,20 @@ CHEATS = [
         ("machine/specs/Run.antt", "(λ code. ending code spent steps s m))", "(λ code. ending code spent (steps + 1) s m))"),
     ),
     Change("the step count is off by one", (RUN, "let mut steps: u32 = 0;", "let mut steps: u32 = 1;")),
+    Change("a listing always answers 10", (LINES, "Listed { code: 0, length }", "Listed { code: 10, length: 0 }")),
+    Change(
+        "a listing always answers 0 and length 0",
+        (LINES, "Listed { code: 0, length }", "Listed { code: 0, length: 0 }"),
+        (LINES, "code: 10,", "code: 0,"),
+    ),
+    Change("two rows of the listing's table are exchanged", (FORMS, "DI.......EI.......", "EI.......DI.......")),
+    Change("a listing has DB for everything", (READ, "(form == kinds::DATA)", "(form == form)")),
+    Change("a listing has DB for everything, by the definition", (LINE_OF, "lineIf (isData bytes) a bytes", "lineIf true a bytes")),
 ]
 
-GROUPS = {"errors that come easily": EASY, "instructions and refusals": INSTRUCTIONS, "cheats": CHEATS}
+GROUPS = {
+    "errors that come easily": EASY,
+    "instructions and refusals": INSTRUCTIONS,
+    "the listing": LISTING,
+    "cheats": CHEATS,
+}
