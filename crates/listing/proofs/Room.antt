@@ -2,13 +2,20 @@
 -- Assumes nothing.
 use Prim.Native.Nat.{ℕ, zero, suc, _-_, _*_, _≤_}
 use mathlib.Core.List.{List, [], _∷_}
+use mathlib.Core.Path.{_≡_, refl}
 use native.Mathlib.Omega.{arith}
 use lib.ListN.{length, length-append}
-use Rattle.arith.specs.Words.{further}
-use Rattle.digits.specs.Digits.{byteIn}
+use Rattle.arith.specs.Width.{sumOf}
+use Rattle.arith.specs.Words.{wordOf, further}
+use Rattle.digits.specs.Ascii.{ascii}
+use Rattle.digits.specs.Digits.{digitsOf, byteIn}
+use Rattle.digits.specs.Numerals.{glyphOf, hexText}
 use Rattle.digits.proofs.Digits.{below-rest}
 use Rattle.digits.proofs.Places.{ByteList}
-use Rattle.listing.specs.Lines.{lineOf, linesFrom, linesOf, joined, lineText, listingOf, mostListed}
+use Rattle.insn.specs.Grid.{grid}
+use Rattle.insn.specs.Shapes.{shapes}
+use Rattle.listing.specs.Spelling.{spellings}
+use Rattle.listing.specs.Lines.{lines, lineOf, linesFrom, linesOf, joined, lineText, listingOf, mostListed}
 use Rattle.listing.proofs.Short.{line-short}
 use Rattle.listing.proofs.Whole.{bytesOf, every-byte}
 
@@ -19,13 +26,18 @@ most-from a few [] p = omega arith
 most-from a (suc few) (b ∷ bytes) p = most-from (further 1 a) few bytes (below-rest p)
 most-from a zero (b ∷ bytes) p =
     let line = lineOf a (b ∷ bytes) in
-    let lines = linesFrom (further 1 a) (length (line .bytes) - 1) bytes in
+    let others = linesFrom (further 1 a) (length (line .bytes) - 1) bytes in
     let rest = most-from (further 1 a) (length (line .bytes) - 1) bytes (below-rest p) in
     let here = line-short a (b ∷ bytes) (omega arith) (p .at 0) (p .at 1) .1 in
-    let text = length-append (lineText line) (joined lineText lines) in
-    let size = length-append (line .bytes) (bytesOf lines) in
+    let text = length-append (lineText line) (joined lineText others) in
+    let size = length-append (line .bytes) (bytesOf others) in
     omega (arith, rest, here, text, size)
 
 pub listing-most : (first : ℕ) (part : List ℕ) → ByteList part → length (listingOf first part) ≤ mostListed * length part
 unfolding listingOf linesOf
 listing-most first part p = rw (every-byte first part) at (most-from first 0 part p)
+
+-- and fewer would not do: LD [HLI],A is one byte
+pub listing-tight : length (listingOf 0 (0x22 ∷ [])) ≡ mostListed
+unfolding further sumOf wordOf ascii digitsOf byteIn glyphOf hexText grid shapes spellings lines
+listing-tight = refl
