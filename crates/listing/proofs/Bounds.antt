@@ -1,7 +1,7 @@
 -- How long a line is: at most 26 characters, and at most 19 for each of its bytes.
 -- Assumes nothing.
 use Prim.Native.Nat.{ℕ, _+_, _*_, _≤_, _<_}
-use mathlib.Core.Bool.{Bool, true, false, _||_, _&&_, false≢true}
+use mathlib.Core.Bool.{Bool, true, false, _||_}
 use mathlib.Core.List.{List, [], _∷_}
 use mathlib.Core.Path.{_≡_, refl}
 use native.Mathlib.Nat.{le-refl}
@@ -75,32 +75,28 @@ unfolding spellingText
 spelling-most next s =
     rw (length-append (ascii (s .name)) (operandsText next (s .operands))) (omega (arith, operands-most next (s .operands)))
 
--- an instruction has a short spelling: with 7 characters and two for each byte it keeps to both bounds, which antt computes for every
--- opcode, whatever follows it
-abbrev short : Insn → Bool
-short i =
-    isUndefined i
-    || (leb (7 + 2 * shapeOf i .bytes + spellingMost (spellingOf i)) (mostListed * shapeOf i .bytes) && leb (spellingMost (spellingOf i)) 13)
+-- an instruction has a short spelling: with 7 characters and two for each byte it keeps to 19 for each, and it has at most 13. antt
+-- computes both for every opcode, whatever follows it
+abbrev whole : Insn → ℕ
+whole i = 7 + 2 * shapeOf i .bytes + spellingMost (spellingOf i)
 
-insn-short : (op n w : ℕ) → op < 256 → n < 256 → short (decodeOf op n w) ≡ true
+insn-each : (op n w : ℕ) → op < 256 → n < 256
+    → (isUndefined (decodeOf op n w) || leb (whole (decodeOf op n w)) (mostListed * shapeOf (decodeOf op n w) .bytes)) ≡ true
 unfolding grid shapes spellings ascii digitsOf glyphOf widthIf widthOf decimalText
-insn-short = each-opcode (λ op n w. short (decodeOf op n w)) (λ op n w. true) true (λ n w. refl) (λ w. refl)
+insn-each =
+    each-opcode (λ op n w. isUndefined (decodeOf op n w) || leb (whole (decodeOf op n w)) (mostListed * shapeOf (decodeOf op n w) .bytes))
+    (λ op n w. true) true (λ n w. refl) (λ w. refl)
 
-and-left : (t u : Bool) → (t && u) ≡ true → t ≡ true
-and-left true u e = refl
-and-left false u e = e
-
-and-right : (t u : Bool) → (t && u) ≡ true → u ≡ true
-and-right true u e = e
-and-right false u e = absurd (false≢true e)
+insn-all : (op n w : ℕ) → op < 256 → n < 256 → leb (spellingMost (spellingOf (decodeOf op n w))) 13 ≡ true
+unfolding grid spellings ascii digitsOf glyphOf widthIf widthOf decimalText
+insn-all = each-opcode (λ op n w. leb (spellingMost (spellingOf (decodeOf op n w))) 13) (λ op n w. true) true (λ n w. refl) (λ w. refl)
 
 pub insn-most : (op n w next : ℕ) → op < 256 → n < 256 → isUndefined (decodeOf op n w) ≡ false
     → (7 + 2 * shapeOf (decodeOf op n w) .bytes + length (spellingText next (spellingOf (decodeOf op n w))) ≤ mostListed * shapeOf (decodeOf op n w) .bytes)
     × (length (spellingText next (spellingOf (decodeOf op n w))) ≤ 13)
 insn-most op n w next h hn d =
     let i = decodeOf op n w in
-    let both = rw d at (insn-short op n w h hn) in
-    let each = leb-true (7 + 2 * shapeOf i .bytes + spellingMost (spellingOf i)) (mostListed * shapeOf i .bytes) (and-left _ _ both) in
-    let all = leb-true (spellingMost (spellingOf i)) 13 (and-right (leb (7 + 2 * shapeOf i .bytes + spellingMost (spellingOf i)) (mostListed * shapeOf i .bytes)) _ both) in
+    let each = leb-true (whole i) (mostListed * shapeOf i .bytes) (rw d at (insn-each op n w h hn)) in
+    let all = leb-true (spellingMost (spellingOf i)) 13 (insn-all op n w h hn) in
     let bound = spelling-most next (spellingOf i) in
     (omega arith, omega arith)

@@ -1,6 +1,6 @@
 -- Texts written one after the other are written as one text.
 -- Assumes nothing.
-use Prim.Native.Nat.{ℕ, suc, _+_, _<_, _≤_}
+use Prim.Native.Nat.{ℕ, suc, _+_, _-_, _<_, _≤_}
 use mathlib.Core.Bool.{Bool, true, false}
 use mathlib.Core.List.{List, [], _∷_, _++_}
 use mathlib.Core.Path.{_≡_, refl, sym, _∙_, ap}
@@ -55,6 +55,15 @@ byte-text b c r = r
 pub nothing : (at : ℕ) (out : List ℕ) → Reaches (written [] (cursor at out)) at out
 unfolding written
 nothing at out = record { place = refl; left = refl }
+
+-- what a match has told of a number is written as that number is
+pub told : (text : ℕ → List ℕ) {m k : ℕ} (c : Cursor) {at : ℕ} {out : List ℕ} → m ≡ k → Reaches (written (text k) c) at out
+    → Reaches (written (text m) c) at out
+told text c e r = rw e r
+
+-- a part of k from n on has k
+pub span : (n k : ℕ) → n + k - n ≡ k
+span n k = omega arith
 
 -- texts of each of a list: what is left of it, written behind the first of what was left, gives the same
 pub each-next : (text : ℕ → List ℕ) (xs : List ℕ) (i : ℕ) (c whole : Cursor) {at : ℕ} {out : List ℕ} → i < length xs

@@ -13,12 +13,12 @@ use Rattle.arith.specs.declared.Rot.{Rot}
 use Rattle.arith.specs.declared.Rot.the-variants.{Rlc, Rrc, Rl, Rr, Sla, Sra, Swap, Srl}
 use Rattle.digits.specs.Ascii.{ascii, space}
 use Rattle.digits.specs.Numerals.{hexText, decimalText}
+use Rattle.insn.specs.Grid.{operandOf}
 use Rattle.insn.specs.declared.Register.{Register}
 use Rattle.insn.specs.declared.Register.the-variants as reg
 use Rattle.insn.specs.declared.Operand.{Operand}
 use Rattle.insn.specs.declared.Operand.the-variants.{Reg, AtHl, Const}
 use Rattle.insn.specs.declared.Place.{Place}
-use Rattle.insn.specs.declared.Place.the-variants as place
 use Rattle.insn.specs.declared.Pair.{Pair}
 use Rattle.insn.specs.declared.Pair.the-variants as pair
 use Rattle.insn.specs.declared.Stacked.{Stacked}
@@ -69,20 +69,14 @@ registerName reg.H = Named "H"
 registerName reg.L = Named "L"
 registerName reg.A = Named "A"
 
-unfoldable pub placeName : Place → Shown
-placeName place.B = Named "B"
-placeName place.C = Named "C"
-placeName place.D = Named "D"
-placeName place.E = Named "E"
-placeName place.H = Named "H"
-placeName place.L = Named "L"
-placeName place.AtHl = Named "[HL]"
-placeName place.A = Named "A"
-
 unfoldable pub operandName : Operand → Shown
 operandName (Reg r) = registerName r
 operandName AtHl = Named "[HL]"
 operandName (Const n) = N8 n
+
+-- a place is named as the operand that it is
+unfoldable pub placeName : Place → Shown
+placeName p = operandName (operandOf p)
 
 unfoldable pub pairName : Pair → Shown
 pairName pair.Bc = Named "BC"
@@ -236,5 +230,5 @@ spellingText next s = ascii (s .name) ++ operandsText next (s .operands)
 
 -- opens the spellings in a proof
 unfoldable pub spellings : Unit {0}
-unfolding registerName placeName operandName pairName stackedName pointerName condName aluName rotName rotAName spellingOf hex signedIf signedText bracketed shownText commaText operandsText spellingText
+unfolding registerName operandName placeName pairName stackedName pointerName condName aluName rotName rotAName spellingOf hex signedIf signedText bracketed shownText commaText operandsText spellingText
 spellings = tt

@@ -2,22 +2,15 @@
 use Prim.Native.Nat.{ℕ}
 use borrow.Author.Needs.{needs}
 use borrow.Author.Tests.{ne-eqb}
-use mathlib.Core.List.{List}
 use mathlib.Core.Logic.{_≢_}
 use mathlib.Core.Path.{_≡_}
 use Rattle.listing.specs.Forms.{textIf, namedText, markText}
-use Rattle.listing.specs.Written.{Cursor, written, Reaches}
 use Rattle.listing.specs.declared.Operands.{Operands}
-use Rattle.listing.proofs.Texts.{nothing}
+use Rattle.listing.proofs.Texts.{nothing, told}
 use Rattle.listing.proofs.forms.mark.Statement.{statement}
 use Rattle.listing.proofs.forms.mark.Tie as tie
 
--- a mark that a match has told is written as that mark is
-told : {m k at : ℕ} {out : List ℕ} (o : Operands) (d : Cursor) → m ≡ k → Reaches (written (markText o k) d) at out
-    → Reaches (written (markText o m) d) at out
-told o d e h = rw e h
-
--- and any other is a name or itself
+-- any other is a name or itself
 other : (o : Operands) (m : ℕ) → m ≢ 46 → m ≢ 98 → m ≢ 101 → m ≢ 104 → m ≢ 106 → m ≢ 118 → m ≢ 119
     → markText o m ≡ namedText (o .op) m
 unfolding markText textIf
@@ -45,18 +38,18 @@ pub mark-spec : {M : Type 1} → statement M
 unfolding markText textIf
 mark-spec =
     tie.close (tie.spec (search needs) (search needs) (search needs) (search needs) (search needs) (search needs) (search needs) (search needs) (search needs) (search needs)
-    (λ c. told _ _ (c .match .keys1) (nothing _ _))
+    (λ c. told (markText _) _ (c .match .keys1) (nothing _ _))
     (search needs)
-    (λ c. let put = c .before .before in told _ _ (put .before .before .match .keys2) (put .hex-byte .ensures))
+    (λ c. let put = c .before .before in told (markText _) _ (put .before .before .match .keys2) (put .hex-byte .ensures))
     (search needs)
-    (λ c. let put = c .before .before in told _ _ (put .before .before .match .keys3) (put .signed .ensures))
+    (λ c. let put = c .before .before in told (markText _) _ (put .before .before .match .keys3) (put .signed .ensures))
     (search needs)
-    (λ c. let put = c .before .before in told _ _ (put .before .before .before .match .keys4) (rw (put .before .before .word .ensures) at (put .hex-word .ensures)))
+    (λ c. let put = c .before .before in told (markText _) _ (put .before .before .before .match .keys4) (rw (put .before .before .word .ensures) at (put .hex-word .ensures)))
     (search needs)
-    (λ c. let put = c .before .before in told _ _ (put .before .before .before .match .keys5) (rw (put .before .before .offset .ensures) at (put .hex-word2 .ensures)))
+    (λ c. let put = c .before .before in told (markText _) _ (put .before .before .before .match .keys5) (rw (put .before .before .offset .ensures) at (put .hex-word2 .ensures)))
     (search needs)
-    (λ c. let put = c .before .before in told _ _ (put .before .before .before .match .keys6) (put .hex-byte2 .ensures))
+    (λ c. let put = c .before .before in told (markText _) _ (put .before .before .before .match .keys6) (put .hex-byte2 .ensures))
     (search needs)
-    (λ c. let put = c .before .before in told _ _ (put .before .before .match .keys7) (put .hex-word3 .ensures))
+    (λ c. let put = c .before .before in told (markText _) _ (put .before .before .match .keys7) (put .hex-word3 .ensures))
     (search needs)
     a-name)

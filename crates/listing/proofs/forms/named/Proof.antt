@@ -2,22 +2,16 @@
 use Prim.Native.Nat.{ℕ}
 use borrow.Author.Needs.{needs}
 use borrow.Author.Tests.{ne-eqb}
-use mathlib.Core.List.{List, [], _∷_}
+use mathlib.Core.List.{[], _∷_}
 use mathlib.Core.Logic.{_≢_}
 use mathlib.Core.Path.{_≡_}
 use Rattle.digits.specs.Ascii.{ascii}
 use Rattle.listing.specs.Forms.{textIf, namedText}
-use Rattle.listing.specs.Written.{Cursor, written, Reaches}
-use Rattle.listing.proofs.Texts.{byte-text}
+use Rattle.listing.proofs.Texts.{byte-text, told}
 use Rattle.listing.proofs.forms.named.Statement.{statement}
 use Rattle.listing.proofs.forms.named.Tie as tie
 
--- a mark that a match has told is written as that mark is
-told : {m k at : ℕ} {out : List ℕ} (op : ℕ) (d : Cursor) → m ≡ k → Reaches (written (namedText op k) d) at out
-    → Reaches (written (namedText op m) d) at out
-told op d e h = rw e h
-
--- and any other character is itself
+-- any other character is itself
 plain : (op m : ℕ) → m ≢ 97 → m ≢ 99 → m ≢ 107 → m ≢ 111 → m ≢ 112 → m ≢ 113 → m ≢ 116 → m ≢ 121 → m ≢ 122 → namedText op m ≡ m ∷ []
 unfolding namedText textIf
 plain op m a c k o p q t y z =
@@ -46,22 +40,22 @@ pub named-spec : {M : Type 1} → statement M
 unfolding namedText textIf ascii
 named-spec =
     tie.close (tie.spec (search needs) (search needs) (search needs) (search needs) (search needs) (search needs) (search needs) (search needs) (search needs) (search needs) (search needs) (search needs) (search needs) (search needs) (search needs) (search needs) (search needs) (search needs) (search needs) (search needs) (search needs) (search needs)
-    (λ c. let put = c .before .before in told _ _ (put .before .before .before .match .keys1) (put .name .ensures))
+    (λ c. let put = c .before .before in told (namedText _) _ (put .before .before .before .match .keys1) (put .name .ensures))
     (search needs)
-    (λ c. let put = c .before .before in told _ _ (put .before .before .before .match .keys2) (put .name2 .ensures))
+    (λ c. let put = c .before .before in told (namedText _) _ (put .before .before .before .match .keys2) (put .name2 .ensures))
     (search needs)
-    (λ c. let put = c .before .before in told _ _ (put .before .before .before .match .keys3) (byte-text _ _ (rw (put .before .before .glyph .ensures) at (put .push .ensures))))
+    (λ c. let put = c .before .before in told (namedText _) _ (put .before .before .before .match .keys3) (byte-text _ _ (rw (put .before .before .glyph .ensures) at (put .push .ensures))))
     (search needs)
-    (λ c. let put = c .before .before in told _ _ (put .before .before .before .match .keys4) (put .name3 .ensures))
+    (λ c. let put = c .before .before in told (namedText _) _ (put .before .before .before .match .keys4) (put .name3 .ensures))
     (search needs)
-    (λ c. let put = c .before .before in told _ _ (put .before .before .before .match .keys5) (put .name4 .ensures))
+    (λ c. let put = c .before .before in told (namedText _) _ (put .before .before .before .match .keys5) (put .name4 .ensures))
     (search needs)
-    (λ c. let put = c .before .before in told _ _ (put .before .before .before .match .keys6) (put .name5 .ensures))
+    (λ c. let put = c .before .before in told (namedText _) _ (put .before .before .before .match .keys6) (put .name5 .ensures))
     (search needs)
-    (λ c. let put = c .before .before in told _ _ (put .before .before .before .match .keys7) (put .name6 .ensures))
+    (λ c. let put = c .before .before in told (namedText _) _ (put .before .before .before .match .keys7) (put .name6 .ensures))
     (search needs)
-    (λ c. let put = c .before .before in told _ _ (put .before .before .match .keys8) (put .register .ensures))
+    (λ c. let put = c .before .before in told (namedText _) _ (put .before .before .match .keys8) (put .register .ensures))
     (search needs)
-    (λ c. let put = c .before .before in told _ _ (put .before .before .match .keys9) (put .register2 .ensures))
+    (λ c. let put = c .before .before in told (namedText _) _ (put .before .before .match .keys9) (put .register2 .ensures))
     (search needs)
     itself)
