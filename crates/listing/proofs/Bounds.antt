@@ -14,41 +14,49 @@ use Rattle.digits.specs.Digits.{digitsOf}
 use Rattle.digits.specs.Numerals.{glyphOf, hexText, widthIf, widthOf, decimalText}
 use Rattle.insn.specs.Grid.{grid, decodeOf}
 use Rattle.insn.specs.Shapes.{shapes, shapeOf, isUndefined}
-use Rattle.insn.specs.declared.Insn.{Insn}
 use Rattle.listing.specs.Lines.{mostListed}
-use Rattle.listing.specs.Spelling.{Shown, Named, N8, N16, AtN16, AtHigh, E8, SpPlusE8, Target, U3, Vec, Spelling, spellings, hex, signedIf, signedText, bracketed, shownText, commaText, operandsText, spellingOf, spellingText}
+use Rattle.listing.specs.Spelling.{Kind, n8, n16, atN16, atHigh, e8, spPlusE8, target, u3, vec, Shown, Named, Of, Spelling, spellings, hex, signedIf, signedText, bracketed, constantText, around, shownText, commaText, operandsText, spellingIn, spellingBy, spellingText}
+use Rattle.listing.specs.declared.Edition.{Edition}
+use Rattle.listing.specs.declared.Edition.the-variants.{Old, New}
 use Rattle.listing.proofs.Opcodes.{each-opcode}
 
--- the most characters of an operand of each kind
+-- the most characters of a constant of each kind with what stands around it, and of an operand
+abbrev mostOfKind : Kind → ℕ → ℕ
+mostOfKind n8 n = 3
+mostOfKind n16 n = 5
+mostOfKind atN16 n = 7
+mostOfKind atHigh n = 7
+mostOfKind e8 n = 4
+mostOfKind spPlusE8 n = 7
+mostOfKind target n = 5
+mostOfKind u3 n = length (decimalText n)
+mostOfKind vec n = 3
+
 abbrev most : Shown → ℕ
 most (Named t) = length (ascii t)
-most (N8 n) = 3
-most (N16 w) = 5
-most (AtN16 w) = 7
-most (AtHigh n) = 7
-most (E8 e) = 4
-most (SpPlusE8 e) = 7
-most (Target e) = 5
-most (U3 k) = length (decimalText k)
-most (Vec v) = 3
+most (Of k n) = mostOfKind k n
 
 signed-most : (t : Bool) (e : ℕ) → length (signedIf t e) ≤ 4
 unfolding signedIf hex ascii hexText digitsOf
 signed-most true e = omega arith
 signed-most false e = omega arith
 
+kind-most : (next : ℕ) (k : Kind) (n : ℕ) → length (around k (constantText next k n)) ≤ mostOfKind k n
+unfolding around constantText signedText bracketed hex ascii hexText digitsOf
+kind-most next n8 n = omega arith
+kind-most next n16 n = omega arith
+kind-most next atN16 n = omega arith
+kind-most next atHigh n = omega arith
+kind-most next e8 n = signed-most (ltb n 0x80) n
+kind-most next spPlusE8 n = omega (arith, signed-most (ltb n 0x80) n)
+kind-most next target n = omega arith
+kind-most next u3 n = le-refl _
+kind-most next vec n = omega arith
+
 shown-most : (next : ℕ) (x : Shown) → length (shownText next x) ≤ most x
-unfolding shownText signedText bracketed hex ascii hexText digitsOf
+unfolding shownText
 shown-most next (Named t) = le-refl _
-shown-most next (N8 n) = omega arith
-shown-most next (N16 w) = omega arith
-shown-most next (AtN16 w) = omega arith
-shown-most next (AtHigh n) = omega arith
-shown-most next (E8 e) = signed-most (ltb e 0x80) e
-shown-most next (SpPlusE8 e) = omega (arith, signed-most (ltb e 0x80) e)
-shown-most next (Target e) = omega arith
-shown-most next (U3 k) = le-refl _
-shown-most next (Vec v) = omega arith
+shown-most next (Of k n) = kind-most next k n
 
 -- of operands, each with what stands before it, and of a spelling
 abbrev mostOf : List Shown → ℕ
@@ -58,45 +66,55 @@ mostOf (x ∷ xs) = 1 + most x + mostOf xs
 abbrev spellingMost : Spelling → ℕ
 spellingMost s = length (ascii (s .name)) + mostOf (s .operands)
 
-commas-most : (next : ℕ) (xs : List Shown) → length (commaText next xs) ≤ mostOf xs
+commas-most : (next : ℕ) (xs : List Shown) → length (commaText (shownText next) xs) ≤ mostOf xs
 unfolding commaText ascii
 commas-most next [] = omega arith
 commas-most next (x ∷ xs) =
-    rw (length-append (shownText next x) (commaText next xs)) (omega (arith, shown-most next x, commas-most next xs))
+    rw (length-append (shownText next x) (commaText (shownText next) xs)) (omega (arith, shown-most next x, commas-most next xs))
 
-operands-most : (next : ℕ) (xs : List Shown) → length (operandsText next xs) ≤ mostOf xs
+operands-most : (next : ℕ) (xs : List Shown) → length (operandsText (shownText next) xs) ≤ mostOf xs
 unfolding operandsText
 operands-most next [] = omega arith
 operands-most next (x ∷ xs) =
-    rw (length-append (shownText next x) (commaText next xs)) (omega (arith, shown-most next x, commas-most next xs))
+    rw (length-append (shownText next x) (commaText (shownText next) xs)) (omega (arith, shown-most next x, commas-most next xs))
 
 spelling-most : (next : ℕ) (s : Spelling) → length (spellingText next s) ≤ spellingMost s
-unfolding spellingText
+unfolding spellingText spellingBy
 spelling-most next s =
-    rw (length-append (ascii (s .name)) (operandsText next (s .operands))) (omega (arith, operands-most next (s .operands)))
+    rw (length-append (ascii (s .name)) (operandsText (shownText next) (s .operands))) (omega (arith, operands-most next (s .operands)))
 
--- an instruction has a short spelling: with 7 characters and two for each byte it keeps to 19 for each, and it has at most 13. antt
--- computes both for every opcode, whatever follows it
-abbrev whole : Insn → ℕ
-whole i = 7 + 2 * shapeOf i .bytes + spellingMost (spellingOf i)
+-- an instruction has a short line: with 7 characters and two for each byte it keeps to 19 for each, and to 26 in all. antt computes
+-- both for every opcode, whatever follows it
+module _ (e : Edition) (op n w : ℕ) where
+  abbrev size : ℕ
+  size = shapeOf (decodeOf op n w) .bytes
 
-insn-each : (op n w : ℕ) → op < 256 → n < 256
-    → (isUndefined (decodeOf op n w) || leb (whole (decodeOf op n w)) (mostListed * shapeOf (decodeOf op n w) .bytes)) ≡ true
+  abbrev long : ℕ
+  long = 7 + 2 * size + spellingMost (spellingIn e op n w)
+
+  abbrev each : Bool
+  each = isUndefined (decodeOf op n w) || leb long (mostListed * size)
+
+  abbrev all : Bool
+  all = leb long 26
+
+insn-each : (e : Edition) (op n w : ℕ) → op < 256 → n < 256 → each e op n w ≡ true
 unfolding grid shapes spellings ascii digitsOf glyphOf widthIf widthOf decimalText
-insn-each =
-    each-opcode (λ op n w. isUndefined (decodeOf op n w) || leb (whole (decodeOf op n w)) (mostListed * shapeOf (decodeOf op n w) .bytes))
-    (λ op n w. true) true (λ n w. refl) (λ w. refl)
+insn-each Old = each-opcode (each Old) (λ op n w. true) true (λ n w. refl) (λ w. refl)
+insn-each New = each-opcode (each New) (λ op n w. true) true (λ n w. refl) (λ w. refl)
 
-insn-all : (op n w : ℕ) → op < 256 → n < 256 → leb (spellingMost (spellingOf (decodeOf op n w))) 13 ≡ true
-unfolding grid spellings ascii digitsOf glyphOf widthIf widthOf decimalText
-insn-all = each-opcode (λ op n w. leb (spellingMost (spellingOf (decodeOf op n w))) 13) (λ op n w. true) true (λ n w. refl) (λ w. refl)
+insn-all : (e : Edition) (op n w : ℕ) → op < 256 → n < 256 → all e op n w ≡ true
+unfolding grid shapes spellings ascii digitsOf glyphOf widthIf widthOf decimalText
+insn-all Old = each-opcode (all Old) (λ op n w. true) true (λ n w. refl) (λ w. refl)
+insn-all New = each-opcode (all New) (λ op n w. true) true (λ n w. refl) (λ w. refl)
 
-pub insn-most : (op n w next : ℕ) → op < 256 → n < 256 → isUndefined (decodeOf op n w) ≡ false
-    → (7 + 2 * shapeOf (decodeOf op n w) .bytes + length (spellingText next (spellingOf (decodeOf op n w))) ≤ mostListed * shapeOf (decodeOf op n w) .bytes)
-    × (length (spellingText next (spellingOf (decodeOf op n w))) ≤ 13)
-insn-most op n w next h hn d =
-    let i = decodeOf op n w in
-    let each = leb-true (whole i) (mostListed * shapeOf i .bytes) (rw d at (insn-each op n w h hn)) in
-    let all = leb-true (spellingMost (spellingOf i)) 13 (insn-all op n w h hn) in
-    let bound = spelling-most next (spellingOf i) in
-    (omega arith, omega arith)
+module _ (e : Edition) (op n w next : ℕ) (h : op < 256) (hn : n < 256) (d : isUndefined (decodeOf op n w) ≡ false) where
+  abbrev lineLength : ℕ
+  lineLength = 7 + 2 * shapeOf (decodeOf op n w) .bytes + length (spellingText next (spellingIn e op n w))
+
+  pub insn-most : (lineLength ≤ 26) × (lineLength ≤ mostListed * shapeOf (decodeOf op n w) .bytes)
+  insn-most =
+      let few = leb-true (long e op n w) 26 (insn-all e op n w h hn) in
+      let fewEach = leb-true (long e op n w) (mostListed * size e op n w) (rw d at (insn-each e op n w h hn)) in
+      let bound = spelling-most next (spellingIn e op n w) in
+      (omega arith, omega arith)

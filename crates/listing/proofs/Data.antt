@@ -11,13 +11,14 @@ use Rattle.arith.specs.Words.{wordOf, further}
 use Rattle.digits.specs.Digits.{byteIn}
 use Rattle.insn.specs.Shapes.{shapeOf, shapedOf, decodedOf}
 use Rattle.insn.proofs.Laws.{undefinedBytes, among, undefined-bytes}
-use Rattle.listing.specs.Spelling.{spellingOf, dataOf, spellingText}
-use Rattle.listing.specs.Lines.{insnIn, sizeIn, isData, lineIf, lineOf}
+use Rattle.listing.specs.Spelling.{dataOf, spellingText}
+use Rattle.listing.specs.Lines.{insnIn, spelledIn, sizeIn, isData, lineIf, lineOf}
+use Rattle.listing.specs.declared.Edition.{Edition}
 use Rattle.listing.proofs.Order.{counted, size-some}
 
-pub line-size : (a : ℕ) (bytes : List ℕ) → 0 < length bytes
-    → (1 ≤ length (lineOf a bytes .bytes)) × (length (lineOf a bytes .bytes) ≤ 3)
-line-size a bytes h = let c = counted a bytes h in (c .some, c .few)
+pub line-size : (e : Edition) (a : ℕ) (bytes : List ℕ) → 0 < length bytes
+    → (1 ≤ length (lineOf e a bytes .bytes)) × (length (lineOf e a bytes .bytes) ≤ 3)
+line-size e a bytes h = let c = counted e a bytes h in (c .some, c .few)
 
 -- one of the eleven undefined bytes, an instruction cut by the end, a $10 not followed by $00
 pub data-exactly : (bytes : List ℕ) → byteIn 0 bytes < 256 → byteIn 1 bytes < 256
@@ -29,20 +30,18 @@ data-exactly bytes first second =
     rw (undefined-bytes (byteIn 0 bytes) (byteIn 1 bytes) (wordOf (byteIn 2 bytes) (byteIn 1 bytes)) first second) refl
 
 -- such a line has the one byte, and spells it as data
-pub data-line : (a : ℕ) (bytes : List ℕ) → isData bytes ≡ true
-    → lineOf a bytes
+pub data-line : (e : Edition) (a : ℕ) (bytes : List ℕ) → isData bytes ≡ true
+    → lineOf e a bytes
     ≡ record { address = a; bytes = take 1 bytes; spelling = spellingText (further 1 a) (dataOf (byteIn 0 bytes)) }
 unfolding lineOf lineIf
-data-line a bytes e = rw e
+data-line e a bytes d = rw d
 
--- any other has the bytes that the decoder takes, and spells what it decodes
-pub decoded-bytes : (a : ℕ) (bytes : List ℕ) → isData bytes ≡ false
-    → (lineOf a bytes .bytes ≡ take (decodedOf (byteIn 0 bytes) (byteIn 1 bytes) (wordOf (byteIn 2 bytes) (byteIn 1 bytes)) .more + 1) bytes)
-    × (lineOf a bytes .spelling
-    ≡ spellingText (further (sizeIn bytes) a)
-    (spellingOf (decodedOf (byteIn 0 bytes) (byteIn 1 bytes) (wordOf (byteIn 2 bytes) (byteIn 1 bytes)) .insn)))
+-- any other has the bytes that the decoder takes, and spells what it decodes as its edition does
+pub decoded-bytes : (e : Edition) (a : ℕ) (bytes : List ℕ) → isData bytes ≡ false
+    → (lineOf e a bytes .bytes ≡ take (decodedOf (byteIn 0 bytes) (byteIn 1 bytes) (wordOf (byteIn 2 bytes) (byteIn 1 bytes)) .more + 1) bytes)
+    × (lineOf e a bytes .spelling ≡ spellingText (further (sizeIn bytes) a) (spelledIn e bytes))
 unfolding lineOf lineIf sizeIn insnIn decodedOf shapedOf
-decoded-bytes a bytes e =
-    let some = size-some bytes e in
+decoded-bytes e a bytes d =
+    let some = size-some bytes d in
     let back : shapeOf (insnIn bytes) .bytes - 1 + 1 ≡ sizeIn bytes = omega arith in
-    (rw (e, back), rw e)
+    (rw (d, back), rw d)

@@ -11,8 +11,9 @@ use Rattle.insn.specs.Grid.{grid}
 use Rattle.insn.specs.Shapes.{shapes}
 use Rattle.listing.specs.Spelling.{spellings}
 use Rattle.listing.specs.Lines.{lines, listingOf}
+use Rattle.listing.specs.declared.Edition.the-variants.{New}
 
-pub m-101 : listingOf 0x0150 (0x20 ∷ 0xF8 ∷ 0xD3 ∷ [])
+pub m-101 : listingOf New 0x0150 (0x20 ∷ 0xF8 ∷ 0xD3 ∷ [])
     ≡ ascii "0150 20F8 JR NZ,$014A" ++ (newline ∷ ascii "0152 D3 DB $D3" ++ (newline ∷ []))
 unfolding sumOf differenceOf wordOf further offsetBy offsetOf ascii digitsOf byteIn glyphOf hexText grid shapes spellings lines
 m-101 = refl

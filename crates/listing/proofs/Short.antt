@@ -13,9 +13,10 @@ use Rattle.digits.specs.Digits.{digitsOf, byteIn}
 use Rattle.digits.specs.Numerals.{hexText}
 use Rattle.insn.specs.Shapes.{isUndefined}
 use Rattle.listing.specs.Spelling.{spellings, dataOf, spellingText}
-use Rattle.listing.specs.Lines.{Line, insnIn, sizeIn, isData, lineIf, lineOf, joined, bytesText, lineText, mostListed}
+use Rattle.listing.specs.Lines.{Line, insnIn, spelledIn, sizeIn, isData, lineIf, lineOf, joined, bytesText, lineText, mostListed}
+use Rattle.listing.specs.declared.Edition.{Edition}
 use Rattle.listing.proofs.Bounds.{insn-most}
-use Rattle.listing.proofs.Order.{or-left, whole, size-few}
+use Rattle.listing.proofs.Order.{or-left, whole}
 
 bytes-length : (bytes : List ℕ) → length (joined (hexText 2) bytes) ≡ 2 * length bytes
 unfolding joined hexText digitsOf
@@ -33,27 +34,29 @@ data-length next b = refl
 abbrev Short : Line → Type 0
 Short l = (length (lineText l) ≤ 26) × (length (lineText l) ≤ mostListed * length (l .bytes))
 
-module _ (a : ℕ) (bytes : List ℕ) (some : 0 < length bytes) (first : byteIn 0 bytes < 256) (second : byteIn 1 bytes < 256) where
-  insn-length : isData bytes ≡ false
-      → (7 + 2 * sizeIn bytes + length (lineIf false a bytes .spelling) ≤ mostListed * sizeIn bytes) × (length (lineIf false a bytes .spelling) ≤ 13)
-  unfolding lineIf sizeIn insnIn isData
-  insn-length e =
-      insn-most (byteIn 0 bytes) (byteIn 1 bytes) (wordOf (byteIn 2 bytes) (byteIn 1 bytes)) (further (sizeIn bytes) a) first second
-      (or-left (isUndefined (insnIn bytes)) _ e)
+module _ (e : Edition) (a : ℕ) (bytes : List ℕ) (some : 0 < length bytes) (first : byteIn 0 bytes < 256) (second : byteIn 1 bytes < 256) where
+  abbrev insnLength : ℕ
+  insnLength = 7 + 2 * sizeIn bytes + length (lineIf false e a bytes .spelling)
 
-  short-if : (t : Bool) → isData bytes ≡ t → Short (lineIf t a bytes)
+  insn-length : isData bytes ≡ false → (insnLength ≤ 26) × (insnLength ≤ mostListed * sizeIn bytes)
+  unfolding lineIf sizeIn spelledIn insnIn isData
+  insn-length d =
+      insn-most e (byteIn 0 bytes) (byteIn 1 bytes) (wordOf (byteIn 2 bytes) (byteIn 1 bytes)) (further (sizeIn bytes) a) first second
+      (or-left (isUndefined (insnIn bytes)) _ d)
+
+  short-if : (t : Bool) → isData bytes ≡ t → Short (lineIf t e a bytes)
   unfolding lineIf
-  short-if true e =
-      let text = line-length (lineIf true a bytes) in
+  short-if true d =
+      let text = line-length (lineIf true e a bytes) in
       let size = length-take-le 1 bytes some in
       let spelled = data-length (further 1 a) (byteIn 0 bytes) in
       (omega (arith, text, size, spelled), omega (arith, text, size, spelled))
-  short-if false e =
-      let text = line-length (lineIf false a bytes) in
-      let size = length-take-le (sizeIn bytes) bytes (whole bytes e) in
-      let spelled = insn-length e in
-      (omega (arith, text, size, spelled .1, size-few bytes), omega (arith, text, size, spelled .0))
+  short-if false d =
+      let text = line-length (lineIf false e a bytes) in
+      let size = length-take-le (sizeIn bytes) bytes (whole bytes d) in
+      let spelled = insn-length d in
+      (omega (arith, text, size, spelled .0), omega (arith, text, size, spelled .1))
 
-  pub line-short : Short (lineOf a bytes)
+  pub line-short : Short (lineOf e a bytes)
   unfolding lineOf
   line-short = short-if (isData bytes) refl

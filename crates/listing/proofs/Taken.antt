@@ -12,8 +12,9 @@ use Rattle.arith.specs.Words.{wordOf, further}
 use Rattle.digits.specs.Digits.{byteIn}
 use Rattle.insn.specs.Grid.{grid, decodeOf}
 use Rattle.insn.specs.Shapes.{shapes, shapeOf, isUndefined}
-use Rattle.listing.specs.Spelling.{spellingOf, spellingText}
-use Rattle.listing.specs.Lines.{insnIn, sizeIn, isData, lineIf, lineOf, lineText}
+use Rattle.listing.specs.Spelling.{spellingText}
+use Rattle.listing.specs.Lines.{insnIn, spelledIn, sizeIn, isData, lineIf, lineOf, lineText}
+use Rattle.listing.specs.declared.Edition.{Edition}
 use Rattle.listing.specs.Forms.{marksText, formIn, operands, forms, dataForm, formAt, formSize, Forms, isDataBy, Reads}
 use Rattle.listing.proofs.Opcodes.{each-opcode}
 use Rattle.listing.proofs.Order.{or-left, whole}
@@ -46,7 +47,7 @@ same-test : (u z : Bool) (size left : ℕ) → (u || (ltb left (sizeUnless u siz
 same-test true z size left = refl
 same-test false z size left = refl
 
-module _ (a : ℕ) (bytes : List ℕ) (some : 0 < length bytes) (first : byteIn 0 bytes < 256) (second : byteIn 1 bytes < 256) where
+module _ (e : Edition) (a : ℕ) (bytes : List ℕ) (some : 0 < length bytes) (first : byteIn 0 bytes < 256) (second : byteIn 1 bytes < 256) where
   abbrev form : ℕ
   form = formAt (byteIn 0 bytes) (byteIn 1 bytes)
 
@@ -68,52 +69,52 @@ module _ (a : ℕ) (bytes : List ℕ) (some : 0 < length bytes) (first : byteIn 
   unfolding isDataBy isData
   data-is = rw (form-data, form-size) (same-test (isUndefined (insnIn bytes)) _ (sizeIn bytes) (length bytes))
 
-  brief : length (lineText (lineOf a bytes)) ≤ 26
-  brief = line-short a bytes some first second .0
+  brief : length (lineText (lineOf e a bytes)) ≤ 26
+  brief = line-short e a bytes some first second .0
 
   pub data-reads : isData bytes ≡ true
-      → Reads (lineOf a bytes) a bytes (record { form = dataForm; bytes = 1; operands = operands 0 (byteIn 0 bytes) 0 0 })
+      → Reads (lineOf e a bytes) a bytes (record { form = dataForm; bytes = 1; operands = operands e 0 (byteIn 0 bytes) 0 0 })
   unfolding lineOf lineIf
-  data-reads e =
-      rw e
+  data-reads d =
+      rw d
       (record {
         form = omega arith;
         fits = some;
         stands = refl;
         takes = refl;
-        spells = λ table spelled. sym (spelled .data-byte (byteIn 0 bytes) (further 1 a));
-        short = rw e at brief;
+        spells = λ table spelled. sym (spelled .data-byte e (byteIn 0 bytes) (further 1 a));
+        short = rw d at brief;
       })
 
   defined : isData bytes ≡ false → isUndefined (insnIn bytes) ≡ false
   unfolding isData
-  defined e = or-left (isUndefined (insnIn bytes)) _ e
+  defined d = or-left (isUndefined (insnIn bytes)) _ d
 
   size-is : isData bytes ≡ false → formSize form ≡ sizeIn bytes
-  size-is e = rw (defined e) at form-size
+  size-is d = rw (defined d) at form-size
 
   insn-spells : isData bytes ≡ false → (table : List ℕ) → Forms table
-      → spellingText (further (sizeIn bytes) a) (spellingOf (insnIn bytes))
-      ≡ marksText (operands (byteIn 0 bytes) (byteIn 1 bytes) word (further (sizeIn bytes) a)) (formIn form table)
-  unfolding insnIn
-  insn-spells e table spelled =
-      sym (spelled .spell (byteIn 0 bytes) (byteIn 1 bytes) word (further (sizeIn bytes) a) first second (defined e))
+      → spellingText (further (sizeIn bytes) a) (spelledIn e bytes)
+      ≡ marksText (operands e (byteIn 0 bytes) (byteIn 1 bytes) word (further (sizeIn bytes) a)) (formIn form table)
+  unfolding spelledIn insnIn
+  insn-spells d table spelled =
+      sym (spelled .spell e (byteIn 0 bytes) (byteIn 1 bytes) word (further (sizeIn bytes) a) first second (defined d))
 
   pub insn-reads : isData bytes ≡ false
-      → Reads (lineOf a bytes) a bytes
+      → Reads (lineOf e a bytes) a bytes
       (record {
         form = form;
         bytes = formSize form;
-        operands = operands (byteIn 0 bytes) (byteIn 1 bytes) word (further (formSize form) a);
+        operands = operands e (byteIn 0 bytes) (byteIn 1 bytes) word (further (formSize form) a);
       })
   unfolding lineOf lineIf
-  insn-reads e =
-      rw (e, size-is e)
+  insn-reads d =
+      rw (d, size-is d)
       (record {
         form = form-below;
-        fits = whole bytes e;
+        fits = whole bytes d;
         stands = refl;
         takes = refl;
-        spells = insn-spells e;
-        short = rw e at brief;
+        spells = insn-spells d;
+        short = rw d at brief;
       })

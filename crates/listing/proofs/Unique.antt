@@ -4,5 +4,5 @@ use denote.Ref.{now}
 use Rattle.arith.proofs.Unique.{same, OneOutcome}
 use Rattle.listing.proofs.list.Reads as list
 
-pub list-unique : OneOutcome list.Post (λ κs e. now (e .1 .1 .0))
+pub list-unique : OneOutcome list.Post (λ κs e. now (e .1 .1 .1 .0))
 list-unique _ _ _ _ _ _ p q = (same (p .answers) (q .answers), same (p .leaves) (q .leaves))

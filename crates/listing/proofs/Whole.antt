@@ -8,6 +8,7 @@ use lib.ListN.{length, take, drop, take-append-drop}
 use lib.Seq.{drop-nil}
 use Rattle.arith.specs.Words.{further}
 use Rattle.listing.specs.Lines.{Line, lineOf, linesFrom, linesOf, joined}
+use Rattle.listing.specs.declared.Edition.{Edition}
 use Rattle.listing.proofs.Order.{counted}
 
 -- the bytes of lines
@@ -21,18 +22,18 @@ both (suc k) b bytes h =
     let less : suc k - 1 ≡ k = omega arith in
     rw less (ap (λ (bs : List ℕ). b ∷ bs) (take-append-drop k bytes))
 
-pub every-from : (a few : ℕ) (bytes : List ℕ) → bytesOf (linesFrom a few bytes) ≡ drop few bytes
+pub every-from : (e : Edition) (a few : ℕ) (bytes : List ℕ) → bytesOf (linesFrom e a few bytes) ≡ drop few bytes
 unfolding linesFrom joined
-every-from a few [] = sym (drop-nil few)
-every-from a (suc few) (b ∷ bytes) = every-from (further 1 a) few bytes
-every-from a zero (b ∷ bytes) =
-    let line = lineOf a (b ∷ bytes) in
-    let first = counted a (b ∷ bytes) (omega arith) in
-    let rest = every-from (further 1 a) (length (line .bytes) - 1) bytes in
+every-from e a few [] = sym (drop-nil few)
+every-from e a (suc few) (b ∷ bytes) = every-from e (further 1 a) few bytes
+every-from e a zero (b ∷ bytes) =
+    let line = lineOf e a (b ∷ bytes) in
+    let first = counted e a (b ∷ bytes) (omega arith) in
+    let rest = every-from e (further 1 a) (length (line .bytes) - 1) bytes in
     ap (λ (bs : List ℕ). line .bytes ++ bs) rest
     ∙ ap (λ (bs : List ℕ). bs ++ drop (length (line .bytes) - 1) bytes) (first .front)
     ∙ both (length (line .bytes)) b bytes (first .some)
 
-pub every-byte : (first : ℕ) (part : List ℕ) → bytesOf (linesOf first part) ≡ part
+pub every-byte : (e : Edition) (first : ℕ) (part : List ℕ) → bytesOf (linesOf e first part) ≡ part
 unfolding linesOf
-every-byte first part = every-from first 0 part
+every-byte e first part = every-from e first 0 part

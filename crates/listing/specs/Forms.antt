@@ -1,8 +1,8 @@
--- How the code spells: by a table with a form of nine characters for each kind of spelling, in which marks stand for the operands.
+-- How the code spells: by a table with a form of eight characters for each kind of spelling, in which marks stand for the operands.
 -- Assumes nothing.
 use Prim.Native.Nat.{ℕ, _+_, _*_, _/_, _%_, _<_, _≤_}
 use mathlib.Core.Bool.{Bool, true, false, _||_, _&&_, not}
-use mathlib.Core.List.{List, [], _∷_}
+use mathlib.Core.List.{List, [], _∷_, _++_}
 use mathlib.Core.Path.{_≡_}
 use lib.Dec.{eqb, leb, ltb}
 use lib.ListN.{length, take, drop}
@@ -12,7 +12,9 @@ use Rattle.digits.specs.Numerals.{glyphOf}
 use Rattle.insn.specs.Grid.{decodeOf}
 use Rattle.insn.specs.Shapes.{isUndefined}
 use Rattle.listing.specs.Lines.{Line, joined, lineText}
-use Rattle.listing.specs.Spelling.{spellingOf, dataOf, hex, signedText, spellingText}
+use Rattle.listing.specs.Spelling.{spellingIn, dataOf, hex, signedText, spellingText}
+use Rattle.listing.specs.declared.Edition.{Edition}
+use Rattle.listing.specs.declared.Edition.the-variants.{Old, New}
 use Rattle.listing.specs.declared.Operands.{Operands}
 use Rattle.listing.specs.declared.Reading.{Reading}
 use Rattle.listing.specs.declared.Measured.{Measured}
@@ -43,18 +45,38 @@ pOf op = op / 16 % 4
 unfoldable pub registerText : ℕ → List ℕ
 registerText k = nameIn (ascii "B...C...D...E...H...L...[HL]A...") k
 
--- the marks of names: a an operation on A, c a condition, k a bit's number, o a rotate, p a pair, q a pair on the stack, t a pointer,
--- y and z a register or [HL]; any other character is itself
-unfoldable pub namedText : ℕ → ℕ → List ℕ
-namedText op mark =
+-- what the editions have otherwise: LDH, which is LDIO in the old one
+unfoldable pub highText : Edition → List ℕ
+highText Old = ascii "LDIO"
+highText New = ascii "LDH"
+
+-- and how HL moves with a load by a pointer: the old edition says it behind LD, and the new one behind the pointer's pair
+unfoldable pub stepText : ℕ → List ℕ
+stepText p = textIf (eqb p 2) (ascii "I") (textIf (eqb p 3) (ascii "D") [])
+
+unfoldable pub loadText : Edition → ℕ → List ℕ
+loadText Old p = ascii "LD" ++ stepText p
+loadText New p = ascii "LD"
+
+unfoldable pub pointerText : Edition → ℕ → List ℕ
+pointerText Old p = nameIn (ascii "BC..DE..HL..HL..") p
+pointerText New p = nameIn (ascii "BC..DE..HL..HL..") p ++ stepText p
+
+-- the marks of names: a an operation on A, c a condition, d LD, i LDH, k a bit's number, l a load by a pointer, o a rotate, p a pair,
+-- q a pair on the stack, t a pointer, y and z a register or [HL]; any other character is itself
+unfoldable pub namedText : Edition → ℕ → ℕ → List ℕ
+namedText e op mark =
     textIf (eqb mark 97) (nameIn (ascii "ADD.ADC.SUB.SBC.AND.XOR.OR..CP..") (yOf op))
     (textIf (eqb mark 99) (nameIn (ascii "NZ..Z...NC..C...") (op / 8 % 4))
+    (textIf (eqb mark 100) (ascii "LD")
+    (textIf (eqb mark 105) (highText e)
     (textIf (eqb mark 107) (glyphOf (yOf op) ∷ [])
+    (textIf (eqb mark 108) (loadText e (pOf op))
     (textIf (eqb mark 111) (nameIn (ascii "RLC.RRC.RL..RR..SLA.SRA.SWAPSRL.") (yOf op))
     (textIf (eqb mark 112) (nameIn (ascii "BC..DE..HL..SP..") (pOf op))
     (textIf (eqb mark 113) (nameIn (ascii "BC..DE..HL..AF..") (pOf op))
-    (textIf (eqb mark 116) (nameIn (ascii "BC..DE..HLI.HLD.") (pOf op))
-    (textIf (eqb mark 121) (registerText (yOf op)) (textIf (eqb mark 122) (registerText (zOf op)) (mark ∷ [])))))))))
+    (textIf (eqb mark 116) (pointerText e (pOf op))
+    (textIf (eqb mark 121) (registerText (yOf op)) (textIf (eqb mark 122) (registerText (zOf op)) (mark ∷ []))))))))))))
 
 -- the marks of constants: b n8, e e8, h LDH's address, j JR's target, v RST's vector, w n16; a point is nothing
 unfoldable pub markText : Operands → ℕ → List ℕ
@@ -64,14 +86,14 @@ markText o mark =
     (textIf (eqb mark 101) (signedText (o .n8))
     (textIf (eqb mark 104) (hex 4 (wordOf 0xFF (o .n8)))
     (textIf (eqb mark 106) (hex 4 (offsetOf (o .n8) (o .next)))
-    (textIf (eqb mark 118) (hex 2 (8 * yOf (o .op))) (textIf (eqb mark 119) (hex 4 (o .n16)) (namedText (o .op) mark)))))))
+    (textIf (eqb mark 118) (hex 2 (8 * yOf (o .op))) (textIf (eqb mark 119) (hex 4 (o .n16)) (namedText (o .edition) (o .op) mark)))))))
 
 unfoldable pub marksText : Operands → List ℕ → List ℕ
 marksText o marks = joined (markText o) marks
 
 -- a form out of the table
 unfoldable pub formIn : ℕ → List ℕ → List ℕ
-formIn form table = take 9 (drop (form * 9) table)
+formIn form table = take 8 (drop (form * 8) table)
 
 -- the byte whose fields name the operands: that after the prefix $CB, where there is one
 unfoldable pub fieldsIf : Bool → ℕ → ℕ → ℕ
@@ -81,8 +103,8 @@ fieldsIf false op n = op
 unfoldable pub fieldsOf : ℕ → ℕ → ℕ
 fieldsOf op n = fieldsIf (eqb op 0xCB) op n
 
-abbrev pub operands : ℕ → ℕ → ℕ → ℕ → Operands
-operands op n w next = record { op = fieldsOf op n; n8 = n; n16 = w; next = next }
+abbrev pub operands : Edition → ℕ → ℕ → ℕ → ℕ → Operands
+operands e op n w next = record { edition = e; op = fieldsOf op n; n8 = n; n16 = w; next = next }
 
 -- the form of an opcode, by the fields of the grid: forms below 29 are of one byte, those below 42 of two, the others of three
 unfoldable pub numberIf : Bool → ℕ → ℕ → ℕ
@@ -136,15 +158,15 @@ formSize form = numberIf (ltb form 29) 1 (numberIf (ltb form 42) 2 3)
 
 -- opens the forms in a proof
 unfoldable pub forms : Unit {0}
-unfolding textIf letterText nameIn registerText namedText markText marksText formIn fieldsIf fieldsOf numberIf firstForm x0Form loadForm jumpForm callForm x3Form unprefixedForm formAt formSize
+unfolding textIf letterText nameIn registerText highText stepText loadText pointerText namedText markText marksText formIn fieldsIf fieldsOf numberIf firstForm x0Form loadForm jumpForm callForm x3Form unprefixedForm formAt formSize
 forms = tt
 
--- a table that spells each instruction, and a byte of data
+-- a table that spells each instruction in both editions, and a byte of data
 pub record Forms (table : List ℕ) : Type 0 where
-  pub size : length table ≡ 450
-  pub spell : (op n w next : ℕ) → op < 256 → n < 256 → isUndefined (decodeOf op n w) ≡ false
-      → marksText (operands op n w next) (formIn (formAt op n) table) ≡ spellingText next (spellingOf (decodeOf op n w))
-  pub data-byte : (b next : ℕ) → marksText (operands 0 b 0 0) (formIn dataForm table) ≡ spellingText next (dataOf b)
+  pub size : length table ≡ 400
+  pub spell : (e : Edition) (op n w next : ℕ) → op < 256 → n < 256 → isUndefined (decodeOf op n w) ≡ false
+      → marksText (operands e op n w next) (formIn (formAt op n) table) ≡ spellingText next (spellingIn e op n w)
+  pub data-byte : (e : Edition) (b next : ℕ) → marksText (operands e 0 b 0 0) (formIn dataForm table) ≡ spellingText next (dataOf b)
 
 -- nothing to list but the byte, told from its form
 unfoldable pub isDataBy : ℕ → ℕ → ℕ → ℕ → ℕ → Bool

@@ -1,5 +1,5 @@
 -- The lines of a part of any length, from its first address on: an instruction or a byte of data each, and every byte once.
--- Document 02, M-101.
+-- Document 02, M-101 and M-102.
 -- Assumes nothing.
 use Prim.Native.Nat.{ℕ, zero, suc, _-_}
 use mathlib.Core.Bool.{Bool, true, false, _||_, _&&_, not}
@@ -13,7 +13,8 @@ use Rattle.digits.specs.Numerals.{hexText}
 use Rattle.insn.specs.Grid.{decodeOf}
 use Rattle.insn.specs.Shapes.{shapeOf, isUndefined}
 use Rattle.insn.specs.declared.Insn.{Insn}
-use Rattle.listing.specs.Spelling.{spellingOf, dataOf, spellingText}
+use Rattle.listing.specs.Spelling.{Spelling, spellingIn, dataOf, spellingText}
+use Rattle.listing.specs.declared.Edition.{Edition}
 
 -- a line: its address, its bytes and its spelling
 pub record Line : Type 0 where
@@ -24,6 +25,10 @@ pub record Line : Type 0 where
 -- the instruction that the bytes begin with; what lies past the end counts as 0
 unfoldable pub insnIn : List ℕ → Insn
 insnIn bytes = decodeOf (byteIn 0 bytes) (byteIn 1 bytes) (wordOf (byteIn 2 bytes) (byteIn 1 bytes))
+
+-- what an edition spells it
+unfoldable pub spelledIn : Edition → List ℕ → Spelling
+spelledIn e bytes = spellingIn e (byteIn 0 bytes) (byteIn 1 bytes) (wordOf (byteIn 2 bytes) (byteIn 1 bytes))
 
 -- how many bytes it has
 unfoldable pub sizeIn : List ℕ → ℕ
@@ -36,28 +41,28 @@ isData bytes =
     || (ltb (length bytes) (sizeIn bytes) || (eqb (byteIn 0 bytes) 0x10 && not (eqb (byteIn 1 bytes) 0x00)))
 
 -- the line that the bytes begin with
-unfoldable pub lineIf : Bool → ℕ → List ℕ → Line
-lineIf true a bytes =
+unfoldable pub lineIf : Bool → Edition → ℕ → List ℕ → Line
+lineIf true e a bytes =
     record { address = a; bytes = take 1 bytes; spelling = spellingText (further 1 a) (dataOf (byteIn 0 bytes)) }
-lineIf false a bytes =
+lineIf false e a bytes =
     record {
       address = a;
       bytes = take (sizeIn bytes) bytes;
-      spelling = spellingText (further (sizeIn bytes) a) (spellingOf (insnIn bytes));
+      spelling = spellingText (further (sizeIn bytes) a) (spelledIn e bytes);
     }
 
-unfoldable pub lineOf : ℕ → List ℕ → Line
-lineOf a bytes = lineIf (isData bytes) a bytes
+unfoldable pub lineOf : Edition → ℕ → List ℕ → Line
+lineOf e a bytes = lineIf (isData bytes) e a bytes
 
 -- the lines of bytes of which the first stands at a, and the first few still belong to the line before; reading goes on behind it
-unfoldable pub linesFrom : ℕ → ℕ → List ℕ → List Line
-linesFrom a few [] = []
-linesFrom a (suc few) (b ∷ bytes) = linesFrom (further 1 a) few bytes
-linesFrom a zero (b ∷ bytes) =
-    lineOf a (b ∷ bytes) ∷ linesFrom (further 1 a) (length (lineOf a (b ∷ bytes) .bytes) - 1) bytes
+unfoldable pub linesFrom : Edition → ℕ → ℕ → List ℕ → List Line
+linesFrom e a few [] = []
+linesFrom e a (suc few) (b ∷ bytes) = linesFrom e (further 1 a) few bytes
+linesFrom e a zero (b ∷ bytes) =
+    lineOf e a (b ∷ bytes) ∷ linesFrom e (further 1 a) (length (lineOf e a (b ∷ bytes) .bytes) - 1) bytes
 
-unfoldable pub linesOf : ℕ → List ℕ → List Line
-linesOf first part = linesFrom first 0 part
+unfoldable pub linesOf : Edition → ℕ → List ℕ → List Line
+linesOf e first part = linesFrom e first 0 part
 
 -- the texts of each, one after the other
 unfoldable pub joined : {A : Type 0} → (A → List ℕ) → List A → List ℕ
@@ -73,8 +78,8 @@ lineText l =
     hexText 4 (l .address) ++ (space ∷ (bytesText (l .bytes) ++ (space ∷ (l .spelling ++ (newline ∷ [])))))
 
 -- the listing
-unfoldable pub listingOf : ℕ → List ℕ → List ℕ
-listingOf first part = joined lineText (linesOf first part)
+unfoldable pub listingOf : Edition → ℕ → List ℕ → List ℕ
+listingOf e first part = joined lineText (linesOf e first part)
 
 -- the most characters for each byte listed (the law `listing-most`), by which a host makes room
 abbrev pub mostListed : ℕ
@@ -82,5 +87,5 @@ mostListed = 19
 
 -- opens the lines in a proof
 unfoldable pub lines : Unit {0}
-unfolding insnIn sizeIn isData lineIf lineOf linesFrom linesOf joined bytesText lineText listingOf
+unfolding insnIn spelledIn sizeIn isData lineIf lineOf linesFrom linesOf joined bytesText lineText listingOf
 lines = tt

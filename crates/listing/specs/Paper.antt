@@ -1,6 +1,8 @@
--- The spellings as they stand in the instruction reference, typed from editions 001 and 004 by the opcode grid of document 01, with
--- sample operands; a row that has no instruction is empty. Nothing here is made from the definition.
+-- The spellings as they stand in the instruction reference, typed from editions 001 and 004, and for the old edition from 002 to 004, by
+-- the opcode grid of document 01, with sample operands; a row that has no instruction is empty. Nothing here is made from the
+-- definition.
 -- Assumes nothing.
+use Prim.Native.Nat.{ℕ}
 use Prim.Native.String.{String}
 use mathlib.Core.List.{List, [], _∷_}
 
@@ -96,4 +98,25 @@ typedHigh =
     ∷ "ADD SP,-$05" ∷ "JP HL" ∷ "LD [$FFFB],A" ∷ "" ∷ "" ∷ "" ∷ "XOR A,$FB" ∷ "RST $28"
     ∷ "LDH A,[$FFFB]" ∷ "POP AF" ∷ "LDH A,[C]" ∷ "DI" ∷ "" ∷ "PUSH AF" ∷ "OR A,$FB" ∷ "RST $30"
     ∷ "LD HL,SP+-$05" ∷ "LD SP,HL" ∷ "LD A,[$FFFB]" ∷ "EI" ∷ "" ∷ "" ∷ "CP A,$FB" ∷ "RST $38"
+    ∷ []
+
+-- edition 1: the rows that editions 002 to 004 write otherwise, in their order, before the bytes $34 and $12
+pub record Retyped : Type 0 where
+  pub row : ℕ
+  pub text : String
+
+infix 70 _reads_
+abbrev pub _reads_ : ℕ → String → Retyped
+k reads t = record { row = k; text = t }
+
+unfoldable pub typedOld : List Retyped
+typedOld =
+    0x22 reads "LDI [HL],A"
+    ∷ 0x2A reads "LDI A,[HL]"
+    ∷ 0x32 reads "LDD [HL],A"
+    ∷ 0x3A reads "LDD A,[HL]"
+    ∷ 0xE0 reads "LDIO [$FF34],A"
+    ∷ 0xE2 reads "LDIO [C],A"
+    ∷ 0xF0 reads "LDIO A,[$FF34]"
+    ∷ 0xF2 reads "LDIO A,[C]"
     ∷ []

@@ -1,11 +1,11 @@
--- How an instruction is spelled: its name, a space, and its operands with commas between. Document 02, M-101; the headings of
--- the instruction reference, edition 001.
+-- How an instruction is spelled: its name, a space, and its operands with commas between. Document 02, M-101 and M-102; the headings
+-- of the instruction reference, edition 001, and what editions 002 to 004 say is written for some of them.
 -- Assumes nothing.
 use Prim.Native.Nat.{ℕ, _-_}
 use Prim.Native.String.{String}
 use mathlib.Core.Bool.{Bool, true, false}
 use mathlib.Core.List.{List, [], _∷_, _++_}
-use lib.Dec.{ltb}
+use lib.Dec.{eqb, ltb}
 use Rattle.arith.specs.Words.{wordOf, offsetOf}
 use Rattle.arith.specs.declared.Alu.{Alu}
 use Rattle.arith.specs.declared.Alu.the-variants.{Add, Adc, Sub, Sbc, And, Xor, Or, Cp}
@@ -13,7 +13,7 @@ use Rattle.arith.specs.declared.Rot.{Rot}
 use Rattle.arith.specs.declared.Rot.the-variants.{Rlc, Rrc, Rl, Rr, Sla, Sra, Swap, Srl}
 use Rattle.digits.specs.Ascii.{ascii, space}
 use Rattle.digits.specs.Numerals.{hexText, decimalText}
-use Rattle.insn.specs.Grid.{operandOf}
+use Rattle.insn.specs.Grid.{operandOf, decodeOf}
 use Rattle.insn.specs.declared.Register.{Register}
 use Rattle.insn.specs.declared.Register.the-variants as reg
 use Rattle.insn.specs.declared.Operand.{Operand}
@@ -29,20 +29,26 @@ use Rattle.insn.specs.declared.Cond.{Cond}
 use Rattle.insn.specs.declared.Cond.the-variants as cond
 use Rattle.insn.specs.declared.Insn.{Insn}
 use Rattle.insn.specs.declared.Insn.the-variants.{Nop, StoreSp, Stop, Jr, JrIf, LoadPair, AddHl, StoreAt, LoadAt, IncPair, DecPair, Inc, Dec, Load, RotateA, Daa, Cpl, Scf, Ccf, Halt, Math, RetIf, StoreHigh, AddSp, LoadHigh, LoadHlSp, Pop, Ret, Reti, JumpHl, LoadSpHl, JumpIf, StoreHighC, StoreTo, LoadHighC, LoadFrom, Jump, Rotate, Bit, Res, Set, Di, Ei, CallIf, Push, Call, Rst, Undefined}
+use Rattle.listing.specs.declared.Edition.{Edition}
+use Rattle.listing.specs.declared.Edition.the-variants.{Old, New}
 
--- an operand, by its kind as the reference's headings have it: the name of a register, a pair or a condition, or the place that one
--- leads to; n8; n16; [n16]; [n16] of LDH, by its low byte; e8; SP+e8; the e8 of JR, which leads to a target; u3; vec
+-- the kind of a constant, as the reference's headings have it: n8; n16; [n16]; [n16] of LDH, by its low byte; e8; SP+e8; the e8 of JR,
+-- which leads to a target; u3; vec
+pub data Kind : Type 0 where
+  n8 : Kind
+  n16 : Kind
+  atN16 : Kind
+  atHigh : Kind
+  e8 : Kind
+  spPlusE8 : Kind
+  target : Kind
+  u3 : Kind
+  vec : Kind
+
+-- an operand: the name of a register, a pair or a condition, or of the place that one leads to; or a constant of a kind
 pub data Shown : Type 0 where
   Named : String → Shown
-  N8 : ℕ → Shown
-  N16 : ℕ → Shown
-  AtN16 : ℕ → Shown
-  AtHigh : ℕ → Shown
-  E8 : ℕ → Shown
-  SpPlusE8 : ℕ → Shown
-  Target : ℕ → Shown
-  U3 : ℕ → Shown
-  Vec : ℕ → Shown
+  Of : Kind → ℕ → Shown
 
 -- a name and its operands
 pub record Spelling : Type 0 where
@@ -72,7 +78,7 @@ registerName reg.A = Named "A"
 unfoldable pub operandName : Operand → Shown
 operandName (Reg r) = registerName r
 operandName AtHl = Named "[HL]"
-operandName (Const n) = N8 n
+operandName (Const n) = Of n8 n
 
 -- a place is named as the operand that it is
 unfoldable pub placeName : Place → Shown
@@ -133,14 +139,14 @@ rotAName Sra = ""
 rotAName Swap = ""
 rotAName Srl = ""
 
--- the table of spellings, a row for each kind of instruction. What is undefined has none: it is listed as data
+-- the table of spellings of edition 2, a row for each kind of instruction. What is undefined has none: it is listed as data
 unfoldable pub spellingOf : Insn → Spelling
 spellingOf Nop = alone "NOP"
-spellingOf (StoreSp w) = two "LD" (AtN16 w) (Named "SP")
+spellingOf (StoreSp w) = two "LD" (Of atN16 w) (Named "SP")
 spellingOf Stop = alone "STOP"
-spellingOf (Jr e) = one "JR" (Target e)
-spellingOf (JrIf cc e) = two "JR" (condName cc) (Target e)
-spellingOf (LoadPair w rp) = two "LD" (pairName rp) (N16 w)
+spellingOf (Jr e) = one "JR" (Of target e)
+spellingOf (JrIf cc e) = two "JR" (condName cc) (Of target e)
+spellingOf (LoadPair w rp) = two "LD" (pairName rp) (Of n16 w)
 spellingOf (AddHl rp) = two "ADD" (Named "HL") (pairName rp)
 spellingOf (StoreAt p) = two "LD" (pointerName p) (Named "A")
 spellingOf (LoadAt p) = two "LD" (Named "A") (pointerName p)
@@ -157,36 +163,72 @@ spellingOf Ccf = alone "CCF"
 spellingOf Halt = alone "HALT"
 spellingOf (Math op s) = two (aluName op) (Named "A") (operandName s)
 spellingOf (RetIf cc) = one "RET" (condName cc)
-spellingOf (StoreHigh n) = two "LDH" (AtHigh n) (Named "A")
-spellingOf (AddSp e) = two "ADD" (Named "SP") (E8 e)
-spellingOf (LoadHigh n) = two "LDH" (Named "A") (AtHigh n)
-spellingOf (LoadHlSp e) = two "LD" (Named "HL") (SpPlusE8 e)
+spellingOf (StoreHigh n) = two "LDH" (Of atHigh n) (Named "A")
+spellingOf (AddSp e) = two "ADD" (Named "SP") (Of e8 e)
+spellingOf (LoadHigh n) = two "LDH" (Named "A") (Of atHigh n)
+spellingOf (LoadHlSp e) = two "LD" (Named "HL") (Of spPlusE8 e)
 spellingOf (Pop rp) = one "POP" (stackedName rp)
 spellingOf Ret = alone "RET"
 spellingOf Reti = alone "RETI"
 spellingOf JumpHl = one "JP" (Named "HL")
 spellingOf LoadSpHl = two "LD" (Named "SP") (Named "HL")
-spellingOf (JumpIf cc w) = two "JP" (condName cc) (N16 w)
+spellingOf (JumpIf cc w) = two "JP" (condName cc) (Of n16 w)
 spellingOf StoreHighC = two "LDH" (Named "[C]") (Named "A")
-spellingOf (StoreTo w) = two "LD" (AtN16 w) (Named "A")
+spellingOf (StoreTo w) = two "LD" (Of atN16 w) (Named "A")
 spellingOf LoadHighC = two "LDH" (Named "A") (Named "[C]")
-spellingOf (LoadFrom w) = two "LD" (Named "A") (AtN16 w)
-spellingOf (Jump w) = one "JP" (N16 w)
+spellingOf (LoadFrom w) = two "LD" (Named "A") (Of atN16 w)
+spellingOf (Jump w) = one "JP" (Of n16 w)
 spellingOf (Rotate r p) = one (rotName r) (placeName p)
-spellingOf (Bit k p) = two "BIT" (U3 k) (placeName p)
-spellingOf (Res k p) = two "RES" (U3 k) (placeName p)
-spellingOf (Set k p) = two "SET" (U3 k) (placeName p)
+spellingOf (Bit k p) = two "BIT" (Of u3 k) (placeName p)
+spellingOf (Res k p) = two "RES" (Of u3 k) (placeName p)
+spellingOf (Set k p) = two "SET" (Of u3 k) (placeName p)
 spellingOf Di = alone "DI"
 spellingOf Ei = alone "EI"
-spellingOf (CallIf cc w) = two "CALL" (condName cc) (N16 w)
+spellingOf (CallIf cc w) = two "CALL" (condName cc) (Of n16 w)
 spellingOf (Push rp) = one "PUSH" (stackedName rp)
-spellingOf (Call w) = one "CALL" (N16 w)
-spellingOf (Rst v) = one "RST" (Vec v)
+spellingOf (Call w) = one "CALL" (Of n16 w)
+spellingOf (Rst v) = one "RST" (Of vec v)
 spellingOf Undefined = alone ""
 
--- a byte that is listed as data
+-- a row that edition 1 has otherwise: an opcode, and what it is spelled there
+pub record Row : Type 0 where
+  pub opcode : ℕ
+  pub spelling : Spelling
+
+infix 70 _spelled_
+abbrev pub _spelled_ : ℕ → Spelling → Row
+op spelled s = record { opcode = op; spelling = s }
+
+-- edition 1 is edition 2's table with eight rows changed: LDI and LDD for the HLI and HLD loads, LDIO for LDH; n is the byte after
+-- the opcode
+unfoldable pub oldRows : ℕ → List Row
+oldRows n =
+    0x22 spelled two "LDI" (Named "[HL]") (Named "A")
+    ∷ 0x2A spelled two "LDI" (Named "A") (Named "[HL]")
+    ∷ 0x32 spelled two "LDD" (Named "[HL]") (Named "A")
+    ∷ 0x3A spelled two "LDD" (Named "A") (Named "[HL]")
+    ∷ 0xE0 spelled two "LDIO" (Of atHigh n) (Named "A")
+    ∷ 0xE2 spelled two "LDIO" (Named "[C]") (Named "A")
+    ∷ 0xF0 spelled two "LDIO" (Named "A") (Of atHigh n)
+    ∷ 0xF2 spelled two "LDIO" (Named "A") (Named "[C]")
+    ∷ []
+
+unfoldable pub changedIf : Bool → Spelling → Spelling → Spelling
+changedIf true row other = row
+changedIf false row other = other
+
+unfoldable pub changedBy : List Row → ℕ → Spelling → Spelling
+changedBy [] op s = s
+changedBy (r ∷ rs) op s = changedIf (eqb op (r .opcode)) (r .spelling) (changedBy rs op s)
+
+-- the spelling in an edition of the instruction that begins with op, before the byte n and the word w
+unfoldable pub spellingIn : Edition → ℕ → ℕ → ℕ → Spelling
+spellingIn New op n w = spellingOf (decodeOf op n w)
+spellingIn Old op n w = changedBy (oldRows n) op (spellingOf (decodeOf op n w))
+
+-- a byte that is listed as data, in either edition
 abbrev pub dataOf : ℕ → Spelling
-dataOf b = one "DB" (N8 b)
+dataOf b = one "DB" (Of n8 b)
 
 -- a constant is $ and two or four capital digits, and e8 has a minus before it where it is negative
 unfoldable pub hex : ℕ → ℕ → List ℕ
@@ -202,33 +244,51 @@ signedText e = signedIf (ltb e 0x80) e
 unfoldable pub bracketed : List ℕ → List ℕ
 bracketed t = ascii "[" ++ (t ++ ascii "]")
 
--- the text of an operand, where the next instruction stands at next: JR shows its target, LDH its full address, and a bit's
--- number is decimal
+-- the text of a constant, where the next instruction stands at next: JR shows its target, LDH its full address, and a bit's number is
+-- decimal
+unfoldable pub constantText : ℕ → Kind → ℕ → List ℕ
+constantText next n8 n = hex 2 n
+constantText next n16 w = hex 4 w
+constantText next atN16 w = hex 4 w
+constantText next atHigh n = hex 4 (wordOf 0xFF n)
+constantText next e8 e = signedText e
+constantText next spPlusE8 e = signedText e
+constantText next target e = hex 4 (offsetOf e next)
+constantText next u3 k = decimalText k
+constantText next vec v = hex 2 v
+
+-- what stands around it
+unfoldable pub around : Kind → List ℕ → List ℕ
+around n8 t = t
+around n16 t = t
+around atN16 t = bracketed t
+around atHigh t = bracketed t
+around e8 t = t
+around spPlusE8 t = ascii "SP+" ++ t
+around target t = t
+around u3 t = t
+around vec t = t
+
 unfoldable pub shownText : ℕ → Shown → List ℕ
 shownText next (Named t) = ascii t
-shownText next (N8 n) = hex 2 n
-shownText next (N16 w) = hex 4 w
-shownText next (AtN16 w) = bracketed (hex 4 w)
-shownText next (AtHigh n) = bracketed (hex 4 (wordOf 0xFF n))
-shownText next (E8 e) = signedText e
-shownText next (SpPlusE8 e) = ascii "SP+" ++ signedText e
-shownText next (Target e) = hex 4 (offsetOf e next)
-shownText next (U3 k) = decimalText k
-shownText next (Vec v) = hex 2 v
+shownText next (Of k n) = around k (constantText next k n)
 
--- operands: a space before the first, a comma before each other
-unfoldable pub commaText : ℕ → List Shown → List ℕ
-commaText next [] = []
-commaText next (x ∷ xs) = ascii "," ++ (shownText next x ++ commaText next xs)
+-- operands, each by its text: a space before the first, a comma before each other
+unfoldable pub commaText : (Shown → List ℕ) → List Shown → List ℕ
+commaText text [] = []
+commaText text (x ∷ xs) = ascii "," ++ (text x ++ commaText text xs)
 
-unfoldable pub operandsText : ℕ → List Shown → List ℕ
-operandsText next [] = []
-operandsText next (x ∷ xs) = space ∷ (shownText next x ++ commaText next xs)
+unfoldable pub operandsText : (Shown → List ℕ) → List Shown → List ℕ
+operandsText text [] = []
+operandsText text (x ∷ xs) = space ∷ (text x ++ commaText text xs)
+
+unfoldable pub spellingBy : (Shown → List ℕ) → Spelling → List ℕ
+spellingBy text s = ascii (s .name) ++ operandsText text (s .operands)
 
 unfoldable pub spellingText : ℕ → Spelling → List ℕ
-spellingText next s = ascii (s .name) ++ operandsText next (s .operands)
+spellingText next s = spellingBy (shownText next) s
 
 -- opens the spellings in a proof
 unfoldable pub spellings : Unit {0}
-unfolding registerName operandName placeName pairName stackedName pointerName condName aluName rotName rotAName spellingOf hex signedIf signedText bracketed shownText commaText operandsText spellingText
+unfolding registerName operandName placeName pairName stackedName pointerName condName aluName rotName rotAName spellingOf oldRows changedIf changedBy spellingIn hex signedIf signedText bracketed constantText around shownText commaText operandsText spellingBy spellingText
 spellings = tt

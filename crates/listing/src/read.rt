@@ -1,4 +1,5 @@
 // What a line reads of the bytes that it begins with.
+use crate::Edition;
 use crate::Operands;
 use crate::Reading;
 use crate::kinds;
@@ -32,9 +33,9 @@ fn is_data(form: u8, size: usize, left: usize, op: u8, n8: u8) -> bool
 }
 
 // What the line reads that bytes from an address on begin with; there must be one.
-pub(crate) fn read(bytes: &[u8], address: u16) -> Reading
+pub(crate) fn read(edition: Edition, bytes: &[u8], address: u16) -> Reading
     requires { ⌜ 0 < length (now bytes) ⌝ }
-    ensures { λ r. ⌜ Reads (lineOf address (now (bytes .entry))) address (now (bytes .entry)) r ⌝ }
+    ensures { λ r. ⌜ Reads (lineOf edition address (now (bytes .entry))) address (now (bytes .entry)) r ⌝ }
 {
     let op = byte_at(bytes, 0);
     let n8 = byte_at(bytes, 1);
@@ -42,6 +43,7 @@ pub(crate) fn read(bytes: &[u8], address: u16) -> Reading
     let size = kinds::size(form);
     if is_data(form, size as usize, bytes.len(), op, n8) {
         let data = Operands {
+            edition,
             op: 0,
             n8: op,
             n16: 0,
@@ -54,6 +56,7 @@ pub(crate) fn read(bytes: &[u8], address: u16) -> Reading
         };
     }
     let operands = Operands {
+        edition,
         op: fields(op, n8),
         n8,
         n16: words::word(byte_at(bytes, 2), n8),

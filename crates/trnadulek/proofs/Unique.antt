@@ -62,8 +62,8 @@ trnadulek-save-image-unique _ _ _ _ _ _ = gives-one
 pub trnadulek-words-unique : OneOutcome words.Post (λ κs e. now (e .1 .0))
 trnadulek-words-unique _ _ _ _ _ _ = gives-one
 
--- a listing: the answer, the output and the length, which stand after the part and its address
-pub trnadulek-list-unique : OneOutcome {S = List ℕ × ℕ} list.Post (λ κs e. (now (e .1 .1 .0), now (e .1 .1 .1 .0)))
+-- a listing: the answer, the output and the length, which stand after the part, its address and the edition
+pub trnadulek-list-unique : OneOutcome {S = List ℕ × ℕ} list.Post (λ κs e. (now (e .1 .1 .1 .0), now (e .1 .1 .1 .1 .0)))
 trnadulek-list-unique _ _ _ _ _ _ p q =
     let out = same (p .leaves-out) (q .leaves-out) in
     let length = same (p .leaves-length) (q .leaves-length) in

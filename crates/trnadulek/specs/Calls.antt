@@ -1,5 +1,5 @@
 -- A step and a run of the state in a block, a run of an image where it lies, and a listing: the answer, and what is left in everything
--- that was lent. Document 01, "Refusal numbers" and "Runs and counts"; document 02, M-101.
+-- that was lent. Document 01, "Refusal numbers" and "Runs and counts"; document 02, M-101 and M-102.
 -- Assumes nothing.
 use Prim.Native.Nat.{ℕ}
 use mathlib.Core.Bool.{Bool, true, false}

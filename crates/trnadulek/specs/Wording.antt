@@ -23,6 +23,7 @@ wordings =
     ∷ ascii "a block length is not 14, or not 65,536"
     ∷ ascii "IME code above 2, or mode code above 3"
     ∷ ascii "output too short"
+    ∷ ascii "edition number is neither 1 nor 2"
     ∷ []
 
 -- a number that the table does not have has no wording

@@ -130,13 +130,19 @@ pub extern "C" fn trnadulek_save_image(state: &[u8; 14], memory: &[u8], image: &
     9
 }
 
-// The listing of a part whose first byte stands at an address. Refusal 10 where the output is too short, which is then unchanged, and
-// the length is 0.
+// The listing of a part whose first byte stands at an address, in the spelling of edition 1, the old one, or 2. Refusals 11 for another
+// edition number, then 10 where the output is too short; the output is then unchanged, and the length is 0.
 #[no_mangle]
-pub extern "C" fn trnadulek_list(part: &[u8], first: u16, out: &mut [u8], length: &mut usize) -> u8
-    ensures { λ r. ⌜ ListGives (listOf first (now (part .entry)) (now (out .entry))) r (now (out .exit)) (now (length .exit)) ⌝ }
+pub extern "C" fn trnadulek_list(
+    part: &[u8],
+    first: u16,
+    edition: u32,
+    out: &mut [u8],
+    length: &mut usize,
+) -> u8
+    ensures { λ r. ⌜ ListGives (listOf edition first (now (part .entry)) (now (out .entry))) r (now (out .exit)) (now (length .exit)) ⌝ }
 {
-    let listed = listing::list(part, first, out);
+    let listed = listing::list(part, first, edition, out);
     *length = listed.length;
     listed.code
 }
@@ -179,7 +185,7 @@ pub extern "C" fn trnadulek_size(which: u32) -> u32
 pub extern "C" fn trnadulek_version() -> u32
     ensures { λ r. ⌜ r ≡ libraryVersion ⌝ }
 {
-    400
+    500
 }
 
 // The words for a refusal number, written if there is room for all of them. The answer is how many bytes they have.

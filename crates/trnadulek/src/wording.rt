@@ -27,6 +27,7 @@ pub(crate) fn tell(code: u8, out: &mut [u8]) -> usize
         8 => put(b"a block length is not 14, or not 65,536", out),
         9 => put(b"IME code above 2, or mode code above 3", out),
         10 => put(b"output too short", out),
+        11 => put(b"edition number is neither 1 nor 2", out),
         _ => 0,
     }
 }

@@ -12,7 +12,7 @@ use Rattle.listing.proofs.forms.mark.Tie as tie
 
 -- any other is a name or itself
 other : (o : Operands) (m : ℕ) → m ≢ 46 → m ≢ 98 → m ≢ 101 → m ≢ 104 → m ≢ 106 → m ≢ 118 → m ≢ 119
-    → markText o m ≡ namedText (o .op) m
+    → markText o m ≡ namedText (o .edition) (o .op) m
 unfolding markText textIf
 other o m point b e h j v w =
     rw (

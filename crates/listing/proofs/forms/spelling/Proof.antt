@@ -1,4 +1,4 @@
--- `spelling` writes nine characters of the table.
+-- `spelling` writes eight characters of the table.
 use borrow.Author.Needs.{needs}
 use Rattle.listing.specs.Forms.{formIn}
 use Rattle.listing.proofs.Texts.{span}
@@ -7,7 +7,7 @@ use Rattle.listing.proofs.forms.spelling.Tie as tie
 
 returns : tie.Need-returns
 unfolding formIn
-returns c = rw (span _ 9) at (c .before .before .marks .ensures)
+returns c = rw (span _ 8) at (c .before .before .marks .ensures)
 
 pub spelling-spec : {M : Type 1} → statement M
 spelling-spec =

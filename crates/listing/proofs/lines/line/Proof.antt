@@ -23,7 +23,7 @@ unfolding lineText
 columns l a bytes table r reads forms = rw (reads .stands, reads .takes, reads .spells table forms)
 
 -- a form of the table is there whole
-room : (form : ℕ) (table : List ℕ) → form < 50 → length table ≡ 450 → form * 9 + 9 ≤ length table
+room : (form : ℕ) (table : List ℕ) → form < 50 → length table ≡ 400 → form * 8 + 8 ≤ length table
 room form table below size = omega arith
 
 slice-aggregate-bytes : tie.Need-slice-aggregate-bytes
