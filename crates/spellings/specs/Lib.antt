@@ -1,0 +1,2 @@
+-- What is proved of spellings.
+pub mod Determined
