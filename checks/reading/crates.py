@@ -79,6 +79,12 @@ def laws(name, wanted, root=ROOT):
     return kept
 
 
+def types(text):
+    """The types of a crate's first file: without its modules and its functions."""
+    text = re.sub(r"^(pub )?mod \w+;\n", "", text, flags=re.M)
+    return re.sub(r"^(?://.*\n)*(?:pub )?fn (?:.*\n)*?\}\n\n?", "", text, flags=re.M)
+
+
 def called(top, crates, root):
     """The crates below this one whose functions its code calls, and what those stand on: they are wanted whole."""
     text = "".join(path.read_text() for path in (root / "crates" / top / "src").glob("**/*.rt"))
@@ -102,8 +108,7 @@ def copy_under(folder, top, root=ROOT, whole=None):
             continue
         shutil.copytree(source / "specs", target / "specs")
         (target / "src").mkdir()
-        types = re.sub(r"^(pub )?mod \w+;\n", "", (source / "src/lib.rt").read_text(), flags=re.M)
-        (target / "src/lib.rt").write_text(types)
+        (target / "src/lib.rt").write_text(types((source / "src/lib.rt").read_text()))
         kept = laws(name, cited(texts, f"Rattle\\.{name}\\.proofs"), root)
         texts += kept.values()
         if kept:
