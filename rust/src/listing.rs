@@ -35,7 +35,7 @@ pub const LISTING_PER_BYTE: usize = 19;
 /// ```
 pub fn list(part: &[u8], first: u16, out: &mut [u8]) -> Result<usize, Refusal> {
     let mut length = 0;
-    Refusal::judge(link::list(part, first, out, &mut length))?;
+    Refusal::judge(link::list(part, first, 2, out, &mut length))?;
     Ok(length)
 }
 
