@@ -9,7 +9,7 @@
 
 enum { PER_BYTE = TRNADULEK_LISTING_PER_BYTE, LONGEST_PART = 12, FILL = '.' };
 
-/* What is no edition; some would be one if they were cut down to a byte, to two or to less than all bits. */
+/* What is no edition; some would be one if they were cut down to fewer bits. */
 static const uint32_t no_editions[] = {
     0, 3, 4, 255, 256, 256 + 1, 256 + 2, 65535, 65536 + 1, 65536 + 2, 0x80000001, 0x80000002, UINT32_MAX,
 };
@@ -75,7 +75,7 @@ static void in_no_edition(const struct listed *given)
     }
 }
 
-/* Texts of one edition, which are refused in those that there are not. */
+/* Texts of one edition, and the same parts in editions that there are not. */
 static void in_edition(uint32_t edition, const struct listed *given, size_t count)
 {
     size_t i;
