@@ -55,10 +55,10 @@
  * 10,000 times the first number, 100 times the second, and the third.
  */
 #define TRNADULEK_VERSION_MAJOR 0
-#define TRNADULEK_VERSION_MINOR 4
+#define TRNADULEK_VERSION_MINOR 5
 #define TRNADULEK_VERSION_PATCH 0
-#define TRNADULEK_VERSION_NUMBER 400u
-#define TRNADULEK_VERSION_STRING "0.4.0"
+#define TRNADULEK_VERSION_NUMBER 500u
+#define TRNADULEK_VERSION_STRING "0.5.0"
 
 /* The sizes. trnadulek_size answers them too. */
 #define TRNADULEK_HEAD_SIZE 23u
@@ -67,8 +67,12 @@
 #define TRNADULEK_IMAGE_SIZE 65559u
 #define TRNADULEK_LARGEST_BUDGET 1048576u
 
-/* The most bytes of text that a listing has for each byte listed; a size too. */
+/* The most bytes of text that a listing has for each byte listed, in either edition; a size too. */
 #define TRNADULEK_LISTING_PER_BYTE 19u
+
+/* The editions of a listing: the older wordings of the instruction reference, and the newest. */
+#define TRNADULEK_EDITION_OLD 1u
+#define TRNADULEK_EDITION_NEW 2u
 
 /* The most cycles that a run can spend beyond its budget. */
 #define TRNADULEK_LARGEST_EXCESS 5u
@@ -92,7 +96,8 @@ enum trnadulek_code {
     TRNADULEK_SAVED_VERSION = 7, /* version byte is not 1 */
     TRNADULEK_BLOCK_LENGTH = 8,  /* a block length is not 14, or not 65,536 */
     TRNADULEK_STATE_CODE = 9,    /* IME code above 2, or mode code above 3 */
-    TRNADULEK_ROOM = 10          /* output too short */
+    TRNADULEK_ROOM = 10,         /* output too short */
+    TRNADULEK_EDITION = 11       /* edition number is neither 1 nor 2 */
 };
 
 /*
@@ -204,8 +209,25 @@ uint8_t trnadulek_untaken_cycles(uint32_t row);
  * instruction that the part's end cuts; the next byte is read afresh then.
  * Addresses count modulo 65,536. The text is ASCII and has no zero byte.
  *
+ * The edition says how eight opcodes are spelled. All else is the same in both:
+ * the other spellings, what is data, the addresses and the bytes.
+ *
+ *   bytes      edition 1, old    edition 2, new
+ *   $22        LDI [HL],A        LD [HLI],A
+ *   $2A        LDI A,[HL]        LD A,[HLI]
+ *   $32        LDD [HL],A        LD [HLD],A
+ *   $3A        LDD A,[HL]        LD A,[HLD]
+ *   $E0 $80    LDIO [$FF80],A    LDH [$FF80],A
+ *   $F0 $80    LDIO A,[$FF80]    LDH A,[$FF80]
+ *   $E2        LDIO [C],A        LDH [C],A
+ *   $F2        LDIO A,[C]        LDH A,[C]
+ *
+ * Refused, in this order, with 11 for any other edition, also of an empty part,
+ * and 10 for the room.
+ *
  * 0: *length is how many bytes the text has. They are at the front of out, and
  * the bytes of out past them are unchanged. An empty part has length 0.
+ * 11: the edition is neither 1 nor 2. *length is 0, and out is unchanged.
  * 10: the text is longer than out_len. *length is 0, and out is unchanged.
  *
  * Room of part_len * TRNADULEK_LISTING_PER_BYTE bytes is always enough, and
@@ -213,8 +235,8 @@ uint8_t trnadulek_untaken_cycles(uint32_t row);
  * asked: a host with less room may try it and, after 10, ask again with more
  * room or for fewer bytes.
  */
-uint8_t trnadulek_list(const uint8_t *part, size_t part_len, uint16_t first, uint8_t *out, size_t out_len,
-                       size_t *length);
+uint8_t trnadulek_list(const uint8_t *part, size_t part_len, uint16_t first, uint32_t edition, uint8_t *out,
+                       size_t out_len, size_t *length);
 
 /*
  * The sizes as the library has them: 0 a head, 1 a state block, 2 the memory,

@@ -45,25 +45,47 @@ static void loads_and_saves(void)
     unit_release(&unit);
 }
 
-/* Nothing to list needs no room, and a byte does. */
-static void listings(void)
+struct refusals {
+    uint8_t of_nothing; /* with no part: of no room, and of some */
+    uint8_t of_a_byte;  /* with a part: of no room */
+};
+
+/* A listing with nothing lent, with room alone, and with a part alone. No text comes of any. */
+static void listings_in(uint32_t edition, struct refusals expected)
 {
     struct guarded part = guarded_bytes(1, 0xC9);
     struct guarded out = guarded_bytes(3, 0xA5);
     struct guarded before = guarded_bytes(3, 0xA5);
     size_t length = 0xA5A5;
-    check_number("list, no part and no room", TRNADULEK_DONE, trnadulek_list(NULL, 0, 0x0150, NULL, 0, &length));
+    check_number("list, no part and no room", expected.of_nothing,
+                 trnadulek_list(NULL, 0, 0x0150, edition, NULL, 0, &length));
     check_number("list, no part and no room", 0, length);
     length = 0xA5A5;
-    check_number("list, no part", TRNADULEK_DONE, trnadulek_list(NULL, 0, 0x0150, out.bytes, out.count, &length));
+    check_number("list, no part", expected.of_nothing,
+                 trnadulek_list(NULL, 0, 0x0150, edition, out.bytes, out.count, &length));
     check_number("list, no part", 0, length);
     length = 0xA5A5;
-    check_number("list, no room", TRNADULEK_ROOM, trnadulek_list(part.bytes, part.count, 0x0150, NULL, 0, &length));
+    check_number("list, no room", expected.of_a_byte,
+                 trnadulek_list(part.bytes, part.count, 0x0150, edition, NULL, 0, &length));
     check_number("list, no room", 0, length);
     check_bytes("list, no part", before.bytes, out.bytes, out.count);
     guarded_release("beside a part", &part);
     guarded_release("beside a text", &out);
     guarded_release("beside an old text", &before);
+}
+
+/* Nothing to list needs no room, and a byte does; an edition that there is not is refused before either. */
+static void listings(void)
+{
+    static const struct refusals of_an_edition = {TRNADULEK_DONE, TRNADULEK_ROOM};
+    static const struct refusals of_none = {TRNADULEK_EDITION, TRNADULEK_EDITION};
+    listings_in(TRNADULEK_EDITION_OLD, of_an_edition);
+    listings_in(TRNADULEK_EDITION_NEW, of_an_edition);
+    listings_in(0, of_none);
+    listings_in(3, of_none);
+    listings_in(256 + 1, of_none);
+    listings_in(65536 + 1, of_none);
+    listings_in(UINT32_MAX, of_none);
 }
 
 /* How long the words are can be asked with no room at all. */

@@ -82,7 +82,8 @@ static void words(void)
     words_of(TRNADULEK_BLOCK_LENGTH, "a block length is not 14, or not 65,536");
     words_of(TRNADULEK_STATE_CODE, "IME code above 2, or mode code above 3");
     words_of(TRNADULEK_ROOM, "output too short");
-    for (code = TRNADULEK_ROOM + 1; code <= UINT8_MAX; code++) {
+    words_of(TRNADULEK_EDITION, "edition number is neither 1 nor 2");
+    for (code = TRNADULEK_EDITION + 1; code <= UINT8_MAX; code++) {
         words_with_room((uint8_t)code, "", 50);
         text_of((uint8_t)code, "");
     }

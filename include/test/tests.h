@@ -8,7 +8,7 @@ void test_interrupts(void); /* a HALT that its handler returns to, dispatches ov
 void test_runs(void);       /* the worked example, counts, refusals */
 void test_images(void);     /* images run where they lie */
 void test_saved(void);      /* heads and images, there and back, refusals */
-void test_listing(void);    /* bytes as text, its room, what stays */
+void test_listing(void);    /* bytes as text in both editions, its room, what stays */
 void test_nulls(void);      /* NULL with a length of 0 */
 
 #endif

@@ -171,7 +171,8 @@ impl FromStr for Mode {
     }
 }
 
-/// A text that is no name of an [`Ime`] or a [`Mode`]. What is displayed has the names.
+/// A text that is no name of an [`Ime`], a [`Mode`] or an [`Edition`](crate::Edition). What is
+/// displayed has the names.
 ///
 /// ```
 /// use trnadulek::Ime;
@@ -180,7 +181,7 @@ impl FromStr for Mode {
 /// assert_eq!(error.to_string(), "the name is not Off, Arming or On");
 /// ```
 #[derive(Clone, Copy, PartialEq, Eq, Hash, Debug)]
-pub struct UnknownName(&'static str);
+pub struct UnknownName(pub(crate) &'static str);
 
 impl Display for UnknownName {
     fn fmt(&self, out: &mut Formatter<'_>) -> fmt::Result {

@@ -12,7 +12,8 @@
 //! - [`open`] reads an image where it lies, and [`save_image`] writes one of a state and a memory;
 //! - [`save`] and [`load`] write and read a head, the 23 bytes of a saved state;
 //! - [`length`] and [`untaken_cycles`] look an opcode up;
-//! - [`list`] writes bytes as text, one line an instruction; `listing` answers it as a string.
+//! - [`list`] writes bytes as text, one line an instruction, in either [`Edition`] of the spelling;
+//!   `listing` answers it as a string.
 //!
 //! The memory is never copied, except into an image that is saved.
 //!
@@ -54,6 +55,7 @@
 extern crate std;
 
 mod cpu;
+mod edition;
 mod image;
 #[doc(hidden)]
 #[allow(missing_docs)] // The header says what each call does.
@@ -66,6 +68,7 @@ mod table;
 mod version;
 
 pub use cpu::{Cpu, Ime, Mode, UnknownName};
+pub use edition::Edition;
 pub use image::{open_mut, run_image, Image};
 #[cfg(feature = "std")]
 pub use listing::listing;

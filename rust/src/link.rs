@@ -45,6 +45,7 @@ mod extern_c {
             part: *const u8,
             part_len: usize,
             first: u16,
+            edition: u32,
             out: *mut u8,
             out_len: usize,
             length: *mut usize,
@@ -113,9 +114,18 @@ pub fn untaken_cycles(row: u32) -> u8 {
     unsafe { extern_c::trnadulek_untaken_cycles(row) }
 }
 
-pub fn list(part: &[u8], first: u16, out: &mut [u8], length: &mut usize) -> u8 {
-    let (bytes, room) = (out.as_mut_ptr(), out.len());
-    unsafe { extern_c::trnadulek_list(part.as_ptr(), part.len(), first, bytes, room, length) }
+pub fn list(part: &[u8], first: u16, edition: u32, out: &mut [u8], length: &mut usize) -> u8 {
+    unsafe {
+        extern_c::trnadulek_list(
+            part.as_ptr(),
+            part.len(),
+            first,
+            edition,
+            out.as_mut_ptr(),
+            out.len(),
+            length,
+        )
+    }
 }
 
 pub fn size(which: u32) -> u32 {

@@ -37,6 +37,8 @@ pub enum Refusal {
     StateCode,
     /// 10: output too short.
     Room,
+    /// 11: edition number is neither 1 nor 2.
+    Edition,
 }
 
 /// No words are longer.
@@ -44,7 +46,7 @@ const LONGEST_WORDS: usize = 43;
 
 impl Refusal {
     /// Every refusal, in the order of the numbers.
-    pub const ALL: [Refusal; 10] = [
+    pub const ALL: [Refusal; 11] = [
         Refusal::MemoryLength,
         Refusal::FlagBits,
         Refusal::Stopped,
@@ -55,6 +57,7 @@ impl Refusal {
         Refusal::BlockLength,
         Refusal::StateCode,
         Refusal::Room,
+        Refusal::Edition,
     ];
 
     /// The number that the core answers for it.
@@ -70,6 +73,7 @@ impl Refusal {
             Refusal::BlockLength => 8,
             Refusal::StateCode => 9,
             Refusal::Room => 10,
+            Refusal::Edition => 11,
         }
     }
 
@@ -109,7 +113,7 @@ impl TryFrom<u8> for Refusal {
 
     /// # Errors
     ///
-    /// For a number that stands for no refusal: 0, which is done, and those above 10.
+    /// For a number that stands for no refusal: 0, which is done, and those above 11.
     fn try_from(number: u8) -> Result<Self, UnknownNumber> {
         let mut all = Refusal::ALL.into_iter();
         all.find(|refusal| refusal.number() == number)

@@ -1,10 +1,10 @@
-//! The switch and the mode by their names, and the register pairs.
+//! The switch, the mode and the edition by their names, and the register pairs.
 
 mod common;
 
 use common::sample;
 use std::error::Error;
-use trnadulek::{Cpu, Ime, Mode};
+use trnadulek::{Cpu, Edition, Ime, Mode};
 
 #[test]
 fn switches_and_modes_have_names_there_and_back() {
@@ -23,6 +23,16 @@ fn switches_and_modes_have_names_there_and_back() {
 }
 
 #[test]
+fn editions_have_names_there_and_back() {
+    let names = Edition::ALL.map(|edition| edition.to_string());
+    assert_eq!(names, ["Old", "New"]);
+    for edition in Edition::ALL {
+        assert_eq!(edition.to_string().parse(), Ok(edition));
+        assert_eq!(edition.to_string().to_lowercase().parse(), Ok(edition));
+    }
+}
+
+#[test]
 fn names_keep_to_a_width() {
     assert_eq!(format!("[{:>8}]", Mode::Repeat), "[  Repeat]");
 }
@@ -37,6 +47,10 @@ fn other_names_are_refused_with_those_that_there_are() {
         let error: Box<dyn Error> = text.parse::<Mode>().unwrap_err().into();
         let words = "the name is not Running, Repeat, Halted or Stopped";
         assert_eq!(error.to_string(), words);
+    }
+    for text in ["", "Ol", "Older", " New", "1", "2"] {
+        let error: Box<dyn Error> = text.parse::<Edition>().unwrap_err().into();
+        assert_eq!(error.to_string(), "the name is not Old or New");
     }
 }
 

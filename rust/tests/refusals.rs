@@ -1,4 +1,4 @@
-//! The numbers of document 01, "Refusal numbers", and its words; 10 is document 02's.
+//! The numbers of document 01, "Refusal numbers", and its words; 10 and 11 are document 02's.
 
 use std::error::Error;
 use trnadulek::{Refusal, UnknownNumber};
@@ -16,6 +16,7 @@ fn every_refusal_has_its_number_and_words() {
         (8, "a block length is not 14, or not 65,536"),
         (9, "IME code above 2, or mode code above 3"),
         (10, "output too short"),
+        (11, "edition number is neither 1 nor 2"),
     ];
     let told = Refusal::ALL.map(|refusal| (refusal.number(), refusal.to_string()));
     assert_eq!(
@@ -29,7 +30,7 @@ fn numbers_and_refusals_there_and_back() {
     for number in 0..=255 {
         let given = Refusal::try_from(number).map(Refusal::number);
         let wanted = match number {
-            1..=10 => Ok(number),
+            1..=11 => Ok(number),
             _ => Err(UnknownNumber(number)),
         };
         assert_eq!(given, wanted);
@@ -40,6 +41,6 @@ fn numbers_and_refusals_there_and_back() {
 fn a_refusal_is_an_error_and_so_is_a_number_that_is_none() {
     let error: Box<dyn Error> = Refusal::Version.into();
     assert_eq!(error.to_string(), "version byte is not 1");
-    let error: Box<dyn Error> = UnknownNumber(11).into();
-    assert_eq!(error.to_string(), "no refusal has the number 11");
+    let error: Box<dyn Error> = UnknownNumber(12).into();
+    assert_eq!(error.to_string(), "no refusal has the number 12");
 }

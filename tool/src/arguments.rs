@@ -35,7 +35,7 @@ const fn often(known: Known) -> Known {
     }
 }
 
-const KNOWN: [Known; 23] = [
+const KNOWN: [Known; 24] = [
     flag("--help"),
     flag("--version"),
     flag("--replace"),
@@ -56,6 +56,7 @@ const KNOWN: [Known; 23] = [
     known("--from", 1, "an address"),
     known("--lines", 1, "a number"),
     known("--bank", 1, "a number"),
+    known("--edition", 1, "old or new"),
     known("--out", 1, "a file"),
     often(known("--bytes", 1, "ADDRESS..ADDRESS")),
     often(known("--score", 2, "an address and a length")),

@@ -1,6 +1,6 @@
 //! Cartridges as they are listed: bank by bank where there are more banks than the processor sees.
 
-use crate::listing::{Part, Which};
+use crate::listing::{Asked, Part, Which};
 use crate::words;
 
 const BANK: usize = 16_384;
@@ -20,14 +20,14 @@ pub struct Cartridge<'a>(pub &'a [u8]);
 
 impl Cartridge<'_> {
     /// The lines, or the words for what is not there.
-    pub fn text(&self, which: &Which, bank: Option<usize>) -> Result<String, String> {
-        match (bank, which) {
-            (Some(number), _) => self.bank(number)?.text(which),
-            (None, _) if self.0.len() <= TWO_BANKS => Part::new(self.0, 0).text(which),
-            (None, Which::All) => self.bank_by_bank(),
-            (None, _) => {
+    pub fn text(&self, asked: &Asked, bank: Option<usize>) -> Result<String, String> {
+        match (bank, &asked.which) {
+            (Some(number), _) => self.bank(number)?.text(asked),
+            (None, _) if self.0.len() <= TWO_BANKS => Part::new(self.0, 0).text(asked),
+            (None, Which::All) => self.bank_by_bank(asked),
+            (None, which) => {
                 self.keep_to_bank_0(which)?;
-                self.bank(0)?.text(which)
+                self.bank(0)?.text(asked)
             }
         }
     }
@@ -45,11 +45,11 @@ impl Cartridge<'_> {
         })
     }
 
-    /// Each under a heading, with an empty line between them.
-    fn bank_by_bank(&self) -> Result<String, String> {
+    /// Each whole under a heading, with an empty line between them.
+    fn bank_by_bank(&self, all: &Asked) -> Result<String, String> {
         let banks = (0..=self.last_bank()).map(|number| {
             let bank = self.bank(number)?;
-            let lines = bank.text(&Which::All)?;
+            let lines = bank.text(all)?;
             Ok(format!("bank {number}: {}\n{lines}", bank.place()))
         });
         let banks: Vec<String> = banks.collect::<Result<_, String>>()?;

@@ -2,7 +2,7 @@
 
 use std::ops::Range;
 
-use trnadulek::listing;
+use trnadulek::{listing, Edition};
 
 use crate::words;
 
@@ -22,6 +22,12 @@ pub enum Which {
     },
     /// Of the instructions that begin in one of these.
     Bytes(Vec<Range<usize>>),
+}
+
+/// What is asked for: which lines, and how they are spelled.
+pub struct Asked {
+    pub which: Which,
+    pub edition: Edition,
 }
 
 /// Bytes that follow one another, with their addresses.
@@ -55,11 +61,15 @@ impl<'a> Part<'a> {
     }
 
     /// The lines, or the words for an address that is not there.
-    pub fn text(&self, which: &Which) -> Result<String, String> {
-        match which {
-            Which::All => Ok(listing(self.bytes, self.first)),
-            Which::Lines { from, count } => self.lines(from.unwrap_or(self.start), *count),
-            Which::Bytes(ranges) => ranges.iter().map(|range| self.begun_in(range)).collect(),
+    pub fn text(&self, asked: &Asked) -> Result<String, String> {
+        let edition = asked.edition;
+        match &asked.which {
+            Which::All => Ok(listing(self.bytes, self.first, edition)),
+            Which::Lines { from, count } => self.lines(from.unwrap_or(self.start), *count, edition),
+            Which::Bytes(ranges) => {
+                let begun = ranges.iter().map(|range| self.begun_in(range, edition));
+                begun.collect()
+            }
         }
     }
 
@@ -68,20 +78,20 @@ impl<'a> Part<'a> {
         words::place(first, first + self.bytes.len())
     }
 
-    fn lines(&self, from: u16, count: usize) -> Result<String, String> {
+    fn lines(&self, from: u16, count: usize, edition: Edition) -> Result<String, String> {
         let at = self.index(usize::from(from))?;
         let after: &[u8] = if self.round { self.bytes } else { &[] };
         let bytes = self.bytes[at..].iter().chain(after.iter().cycle());
         let enough: Vec<u8> = bytes.take(count * LONGEST).copied().collect();
-        let text = listing(&enough, from);
+        let text = listing(&enough, from, edition);
         Ok(text.split_inclusive('\n').take(count).collect())
     }
 
     /// The instructions that begin in a range of addresses, each of them whole.
-    fn begun_in(&self, range: &Range<usize>) -> Result<String, String> {
+    fn begun_in(&self, range: &Range<usize>, edition: Edition) -> Result<String, String> {
         let (at, last) = (self.index(range.start)?, self.index(range.end - 1)?);
         let enough = self.bytes.len().min(last + LONGEST);
-        let text = listing(&self.bytes[at..enough], range.start as u16);
+        let text = listing(&self.bytes[at..enough], range.start as u16, edition);
         let mut next = at;
         let begun = text.split_inclusive('\n').take_while(|line| {
             let begins = next;

@@ -8,12 +8,6 @@ use trnadulek::MEMORY_SIZE;
 use crate::trouble::Trouble;
 use crate::words;
 
-/// What was typed where something else is wanted.
-fn wrong(place: &str, found: &OsStr, wanted: &str) -> Trouble {
-    let found = words::typed(found);
-    Trouble::usage(&format!("{place}: found {found}, wanted {wanted}"))
-}
-
 /// One to four hexadecimal digits, after $ or 0x or nothing.
 fn word(text: &str) -> Option<u16> {
     let digits = text
@@ -26,7 +20,7 @@ fn word(text: &str) -> Option<u16> {
 
 /// The value of an option that takes such digits.
 pub fn word_for(option: &str, value: &OsStr) -> Result<u16, Trouble> {
-    let wrong = || wrong(option, value, "up to four hexadecimal digits");
+    let wrong = || Trouble::wrong(option, value, "up to four hexadecimal digits");
     word(value.to_str().unwrap_or_default()).ok_or_else(wrong)
 }
 
@@ -36,7 +30,7 @@ pub fn range(option: &str, value: &OsStr) -> Result<Range<usize>, Trouble> {
     let (from, to) = text.split_once("..").unwrap_or((text, text));
     match (word(from), word(to)) {
         (Some(from), Some(to)) if from <= to => Ok(usize::from(from)..usize::from(to) + 1),
-        _ => Err(wrong(
+        _ => Err(Trouble::wrong(
             option,
             value,
             "ADDRESS..ADDRESS in hexadecimal digits, the lower one first",
@@ -53,7 +47,7 @@ pub fn field(option: &str, address: &OsStr, length: &OsStr) -> Result<Range<usiz
         _ => {
             let most = words::grouped(room as u64);
             let wanted = format!("a number of bytes, from ${from:04X} on 1 to {most}");
-            Err(wrong(option, length, &wanted))
+            Err(Trouble::wrong(option, length, &wanted))
         }
     }
 }
@@ -61,7 +55,7 @@ pub fn field(option: &str, address: &OsStr, length: &OsStr) -> Result<Range<usiz
 pub fn cycles(value: &OsStr) -> Result<u64, Trouble> {
     decimal(value).ok_or_else(|| {
         let wanted = format!("a number in decimal digits, at most {}", u64::MAX);
-        wrong("the cycles", value, &wanted)
+        Trouble::wrong("the cycles", value, &wanted)
     })
 }
 
@@ -72,7 +66,7 @@ pub fn count(option: &str, value: &OsStr, wanted: RangeInclusive<usize>) -> Resu
         .filter(|number| wanted.contains(number))
         .ok_or_else(|| {
             let (least, most) = (wanted.start(), words::grouped(*wanted.end() as u64));
-            wrong(
+            Trouble::wrong(
                 option,
                 value,
                 &format!("a number in decimal digits, {least} to {most}"),

@@ -1,3 +1,4 @@
+use std::ffi::OsStr;
 use std::io;
 use std::path::Path;
 
@@ -15,6 +16,15 @@ pub enum Trouble {
 impl Trouble {
     pub fn usage(what: &str) -> Self {
         Trouble::Usage(what.to_string())
+    }
+
+    /// What was typed where something else is wanted.
+    pub fn wrong(place: &str, found: &OsStr, wanted: &str) -> Self {
+        let found = match found.is_empty() {
+            true => "nothing".to_string(),
+            false => words::typed(found),
+        };
+        Trouble::Usage(format!("{place}: found {found}, wanted {wanted}"))
     }
 
     pub fn said(path: &Path, what: &str) -> Self {

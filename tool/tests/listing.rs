@@ -371,8 +371,162 @@ fn to_a_file() {
     assert_eq!(bench.get("new"), []);
 }
 
+/// What editions 002 to 004 of the reference call these, and what 001 does.
+const OLD_AND_NEW: [(&[u8], &str, &str); 8] = [
+    (&[0x22], "0150 22 LDI [HL],A\n", "0150 22 LD [HLI],A\n"),
+    (&[0x2A], "0150 2A LDI A,[HL]\n", "0150 2A LD A,[HLI]\n"),
+    (&[0x32], "0150 32 LDD [HL],A\n", "0150 32 LD [HLD],A\n"),
+    (&[0x3A], "0150 3A LDD A,[HL]\n", "0150 3A LD A,[HLD]\n"),
+    (
+        &[0xE0, 0x80],
+        "0150 E080 LDIO [$FF80],A\n",
+        "0150 E080 LDH [$FF80],A\n",
+    ),
+    (
+        &[0xF0, 0x80],
+        "0150 F080 LDIO A,[$FF80]\n",
+        "0150 F080 LDH A,[$FF80]\n",
+    ),
+    (&[0xE2], "0150 E2 LDIO [C],A\n", "0150 E2 LDH [C],A\n"),
+    (&[0xF2], "0150 F2 LDIO A,[C]\n", "0150 F2 LDH A,[C]\n"),
+];
+
+#[test]
+fn eight_opcodes_in_both_editions() {
+    let bench = Bench::new("list-editions");
+    for (part, old, new) in OLD_AND_NEW {
+        bench.put("part", part);
+        for (edition, text) in [
+            ("", new),
+            ("--edition new", new),
+            ("--edition old", old),
+            ("--edition=old", old),
+        ] {
+            let line = format!("list --part part --from 0150 {edition}");
+            assert_eq!(bench.tool(&line).done(), text);
+        }
+    }
+}
+
+/// The adding routine in the old edition: one line is another.
+fn adding_listed_old() -> String {
+    ADDING_LISTED.replace("0154 22 LD [HLI],A\n", "0154 22 LDI [HL],A\n")
+}
+
+/// Every other opcode, with zeros for its operands, and one of the eight that the end cuts.
+#[test]
+fn no_other_opcode_has_two_spellings() {
+    let bench = Bench::new("list-one-spelling");
+    let differs = |opcode: &u8| OLD_AND_NEW.iter().any(|(part, ..)| part[0] == *opcode);
+    let others = (0..=0xFF).filter(|opcode| !differs(opcode));
+    let plain = others.flat_map(|opcode: u8| [opcode, 0x00, 0x00]);
+    let prefixed = (0..=0xFF).flat_map(|second: u8| [0xCB, second]);
+    let all: Vec<u8> = plain.chain(prefixed).chain([0xE0]).collect();
+    bench.put("part", &all);
+    let old = bench.tool("list --part part --from 0 --edition old").done();
+    assert_eq!(old, bench.tool("list --part part --from 0").done());
+    assert!(old.lines().count() > 500 && old.ends_with(" E0 DB $E0\n"));
+}
+
+#[test]
+fn images_and_dumps_in_the_old_edition() {
+    let bench = Bench::new("list-old-memory");
+    bench.put("in", &image(&WORKED_HEAD, &worked_memory()));
+    bench.put("dump", &worked_memory());
+    for asked in [
+        "in --lines 9",
+        "in --from 0150 --lines 9",
+        "in --bytes 0150..0159",
+        "dump --from 150 --lines 9",
+        "--dump dump --bytes 0150..0159",
+    ] {
+        let line = format!("list {asked} --edition old");
+        assert_eq!(bench.tool(&line).done(), adding_listed_old());
+        let line = format!("list --edition new {asked}");
+        assert_eq!(bench.tool(&line).done(), ADDING_LISTED);
+    }
+    let next = bench.tool("list in --edition old").done();
+    let twenty = format!("{}{}", adding_listed_old(), nops(0x015A..0x0165));
+    assert_eq!(next, twenty);
+    let whole = bench.tool("list dump --edition old").done();
+    let before = nops(0..0x0150);
+    assert!(whole.starts_with(&format!("{before}{}015A 00 NOP\n", adding_listed_old())));
+    let fed = bench.fed("list - --edition old --bytes 154", &bench.get("in"));
+    assert_eq!(fed.done(), "0154 22 LDI [HL],A\n");
+}
+
+#[test]
+fn banks_in_the_old_edition() {
+    let bench = Bench::new("list-old-banks");
+    let parts: [(usize, &[u8]); 3] = [
+        (0, &[0xF0, 0x44]),
+        (2 * BANK, &[0x3A]),
+        (3 * BANK - 1, &[0xE0]),
+    ];
+    bench.put("three", &zeros(3 * BANK, &parts));
+    let listed = bench.tool("list three --edition old").done();
+    let banks: Vec<&str> = listed.split("\n\n").collect();
+    assert_eq!(banks.len(), 3);
+    assert!(banks[0].starts_with("bank 0: $0000-$3FFF, 16,384 bytes\n0000 F044 LDIO A,[$FF44]\n"));
+    assert!(banks[2].starts_with("bank 2: $4000-$7FFF, 16,384 bytes\n4000 3A LDD A,[HL]\n"));
+    // What the end of a bank cuts is data, so that no spelling can differ.
+    assert!(banks[2].ends_with("\n7FFF E0 DB $E0\n"));
+    for (asked, text) in [
+        ("three --bank 2 --lines 1", "4000 3A LDD A,[HL]\n"),
+        ("three --bank 2 --bytes 4000", "4000 3A LDD A,[HL]\n"),
+        ("three --lines 1", "0000 F044 LDIO A,[$FF44]\n"),
+        ("--cartridge three --bytes 0", "0000 F044 LDIO A,[$FF44]\n"),
+    ] {
+        let line = format!("list {asked} --edition old");
+        assert_eq!(bench.tool(&line).done(), text);
+    }
+    bench.put("one", &[0xE2, 0xC9]);
+    let small = bench.tool("list one --edition old").done();
+    assert_eq!(small, "0000 E2 LDIO [C],A\n0001 C9 RET\n");
+}
+
+#[test]
+fn the_old_edition_to_a_file() {
+    let bench = Bench::new("list-old-out");
+    bench.put("in", &image(&WORKED_HEAD, &worked_memory()));
+    let said = bench.tool("list in --lines 9 --edition old --out text");
+    assert_eq!(said.done(), "listed in, wrote text\n");
+    assert_eq!(bench.get("text"), adding_listed_old().as_bytes());
+    bench
+        .tool("list in --lines 9 --edition older --out new")
+        .failed("--edition: found older, wanted old or new");
+    bench.tool("list in --lines 9 --out text --replace").done();
+    assert_eq!(bench.get("text"), ADDING_LISTED.as_bytes());
+    assert_eq!(bench.names(), ["in", "text"]);
+}
+
+/// A name in small letters and nothing else. It is said before any file is read.
+#[test]
+fn other_editions() {
+    let bench = Bench::new("list-no-edition");
+    for (typed, found) in [
+        ("OLD", "OLD"),
+        ("New", "New"),
+        ("1", "1"),
+        ("2", "2"),
+        ("3", "3"),
+        ("older", "older"),
+        (" old", " old"),
+        ("", "nothing"),
+        ("o\nld", "o?ld"),
+    ] {
+        let words = format!("--edition: found {found}, wanted old or new; nothing was done");
+        for file in [&["absent"][..], &["--part", "absent", "--from", "0"]] {
+            let words_typed = [&["list", "--edition", typed], file].concat();
+            bench.call(&words_typed).failed(&words);
+        }
+        let joined = format!("--edition={typed}");
+        bench.call(&["list", "absent", &joined]).failed(&words);
+    }
+}
+
 /// What is not understood, and what is said of it.
-const WRONG_USE: [(&str, &str); 19] = [
+const WRONG_USE: [(&str, &str); 22] = [
     (
         "list",
         "the form is: trnadulek-tool list (FILE | --part FILE --from ADDRESS)",
@@ -425,6 +579,15 @@ const WRONG_USE: [(&str, &str); 19] = [
         "--score is for show, judge, not for list",
     ),
     ("show in --from 0", "--from is for list, not for show"),
+    (
+        "show in --edition old",
+        "--edition is for list, not for show",
+    ),
+    ("list in --edition", "--edition wants old or new"),
+    (
+        "list in --edition old --edition new",
+        "--edition is given twice",
+    ),
 ];
 
 #[test]
@@ -456,6 +619,11 @@ fn large_files() {
     // Each LD [HLI],A has the most text that a byte can have, 19 bytes.
     let length = bench
         .shell("\"$TOOL\" list --part cartridge --from 0 | wc -c")
+        .done();
+    assert_eq!(length, format!("{}\n", 19 * 512 * BANK));
+    // So has each LDI [HL],A.
+    let length = bench
+        .shell("\"$TOOL\" list --part cartridge --from 0 --edition old | wc -c")
         .done();
     assert_eq!(length, format!("{}\n", 19 * 512 * BANK));
     let first = bench

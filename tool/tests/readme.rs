@@ -13,7 +13,7 @@ fn the_readme_tells_the_truth() {
         1, 0, 0, 0, 14, 0, 0, 0, 0, 0, 0, 0, 0, 0, 0, 0, 0, 0, 0, 0, 1, 0, 0,
     ];
     bench.put("stops.img", &image(&zero, &memory(&[(0, &stop)])));
-    assert_eq!(holds(include_str!("../README.md"), &bench), 17);
+    assert_eq!(holds(include_str!("../README.md"), &bench), 18);
 }
 
 /// The commands of docs/scores.md: two units that disagree about 199 and 1.
@@ -69,7 +69,7 @@ fn the_page_about_listings_tells_the_truth() {
     bench.put("four.gb", &four_banks());
     bench.put("patch.bin", &[0x3E, 0x01, 0xE0, 0x80, 0xC9]);
     let page = include_str!("../../docs/listing.md");
-    assert_eq!(holds(page, &bench), 14);
+    assert_eq!(holds(page, &bench), 16);
     // The page's first lines are document 02's, and stand there before any command.
     bench.put("example", &[0x20, 0xF8, 0xD3]);
     let example = bench.tool("list --part example --from 0150").done();
@@ -78,6 +78,39 @@ fn the_page_about_listings_tells_the_truth() {
         .map(|line| format!("    {line}\n"))
         .collect();
     assert_eq!(page.matches(&shown).count(), 1);
+}
+
+/// The rows of the page's table of two spellings: bytes, old, new. The tool spells each so.
+#[test]
+fn the_table_of_two_spellings_tells_the_truth() {
+    let bench = Bench::new("spellings");
+    let page = include_str!("../../docs/listing.md");
+    let shown: [(&[u8], &str); 8] = [
+        (&[0x22], "| `22` | `LDI [HL],A` | `LD [HLI],A` |"),
+        (&[0x2A], "| `2A` | `LDI A,[HL]` | `LD A,[HLI]` |"),
+        (&[0x32], "| `32` | `LDD [HL],A` | `LD [HLD],A` |"),
+        (&[0x3A], "| `3A` | `LDD A,[HL]` | `LD A,[HLD]` |"),
+        (
+            &[0xE0, 0x80],
+            "| `E080` | `LDIO [$FF80],A` | `LDH [$FF80],A` |",
+        ),
+        (
+            &[0xF0, 0x80],
+            "| `F080` | `LDIO A,[$FF80]` | `LDH A,[$FF80]` |",
+        ),
+        (&[0xE2], "| `E2` | `LDIO [C],A` | `LDH [C],A` |"),
+        (&[0xF2], "| `F2` | `LDIO A,[C]` | `LDH A,[C]` |"),
+    ];
+    for (bytes, row) in shown {
+        assert_eq!(page.matches(row).count(), 1, "{row}");
+        let cells: Vec<&str> = row.split('`').collect();
+        bench.put("part", bytes);
+        for (edition, spelling) in [("old", cells[3]), ("new", cells[5])] {
+            let line = format!("list --part part --from 0 --edition {edition}");
+            let listed = bench.tool(&line).done();
+            assert_eq!(listed, format!("0000 {} {spelling}\n", cells[1]));
+        }
+    }
 }
 
 /// The operands that the page has in its table are written so.

@@ -60,16 +60,25 @@ static void fill_part(void)
     }
 }
 
-static void list(void)
+static void list_old(void)
 {
     size_t length;
-    trnadulek_list(part, sizeof part, 0, text, sizeof text, &length);
+    trnadulek_list(part, sizeof part, 0, TRNADULEK_EDITION_OLD, text, sizeof text, &length);
 }
 
+static void list_new(void)
+{
+    size_t length;
+    trnadulek_list(part, sizeof part, 0, TRNADULEK_EDITION_NEW, text, sizeof text, &length);
+}
+
+/* For its room, in both editions, and for an edition that there is not. */
 static void list_refused(void)
 {
     size_t length;
-    trnadulek_list(part, sizeof part, 0, text, 1, &length);
+    trnadulek_list(part, sizeof part, 0, TRNADULEK_EDITION_OLD, text, 1, &length);
+    trnadulek_list(part, sizeof part, 0, TRNADULEK_EDITION_NEW, text, 1, &length);
+    trnadulek_list(part, sizeof part, 0, TRNADULEK_EDITION_NEW + 1, text, sizeof text, &length);
 }
 
 static void ask(void)
@@ -118,7 +127,8 @@ int main(void)
     good &= within("a step", step, entry);
     good &= within("an image saved and opened", save_and_open, entry);
     good &= within("a head saved and loaded", save_and_load, entry);
-    good &= within("a listing of 65,536 bytes", list, entry);
+    good &= within("a listing of 65,536 bytes in the old edition", list_old, entry);
+    good &= within("the same in the new edition", list_new, entry);
     good &= within("a listing that is refused", list_refused, entry);
     good &= within("a question", ask, entry);
     return good ? 0 : 1;

@@ -1,12 +1,12 @@
 use std::path::Path;
 
-use trnadulek::{listing, load, Refusal, HEAD_SIZE, IMAGE_SIZE, MEMORY_SIZE};
+use trnadulek::{listing, load, Edition, Refusal, HEAD_SIZE, IMAGE_SIZE, MEMORY_SIZE};
 
 use super::Command;
 use crate::arguments::Given;
 use crate::cartridge::{self, Cartridge};
 use crate::input::Input;
-use crate::listing::{Part, Which, ENOUGH};
+use crate::listing::{Asked, Part, Which, ENOUGH};
 use crate::report::{Report, Status};
 use crate::saved::Saved;
 use crate::trouble::Trouble;
@@ -14,7 +14,7 @@ use crate::{numbers, refused, target, words};
 
 pub const COMMAND: Command = Command {
     name: "list",
-    form: "(FILE | --part FILE --from ADDRESS) [LINES] [--out OUT [--replace]]",
+    form: "(FILE | --part FILE --from ADDRESS) [LINES] [EDITION] [--out OUT [--replace]]",
     about: "\
 bytes as text, one line an instruction; DB is a byte that begins none
 of an image 20 lines from PC; of a dump or a cartridge all lines, those of more than two banks
@@ -23,6 +23,7 @@ bank by bank. FILE is known by its length; --dump FILE or --cartridge FILE say w
 --bytes ADDRESS..ADDRESS  of the instructions that begin there, both addresses among them
 --bank N  of this bank of a cartridge, with the options above or all of it
 --part    the bytes of FILE as they are, the first one at ADDRESS, and nothing else
+--edition old|new  old is the site manuals' spelling, with LDI, LDD and LDIO; new if not given
 --out     to OUT and not to standard output",
     options: &[
         "--dump",
@@ -32,6 +33,7 @@ bank by bank. FILE is known by its length; --dump FILE or --cartridge FILE say w
         "--lines",
         "--bytes",
         "--bank",
+        "--edition",
         "--out",
         "--replace",
     ],
@@ -88,14 +90,15 @@ impl<'a> Source<'a> {
     }
 
     fn text(&self, given: &Given) -> Result<String, Trouble> {
+        let edition = edition(given)?;
         let read = match self.said {
-            Some("--part") => return part(self.file, given),
+            Some("--part") => return part(self.file, given, edition),
             Some("--dump") => Kind::dump,
             Some(_) => Kind::cartridge,
             None => Kind::known_by_length,
         };
         let (which, bank) = (which(given)?, bank(given)?);
-        let text = read(self.file)?.text(which, bank);
+        let text = read(self.file)?.text(which, bank, edition);
         text.map_err(|words| Trouble::said(self.file, &words))
     }
 }
@@ -143,7 +146,12 @@ impl Kind {
     }
 
     /// The lines that are asked for, or else of an image some from PC and of all others all.
-    fn text(&self, which: Option<Which>, bank: Option<usize>) -> Result<String, String> {
+    fn text(
+        &self,
+        which: Option<Which>,
+        bank: Option<usize>,
+        edition: Edition,
+    ) -> Result<String, String> {
         let unasked = match self {
             Kind::Image(_) => Which::Lines {
                 from: None,
@@ -151,12 +159,15 @@ impl Kind {
             },
             _ => Which::All,
         };
-        let which = which.unwrap_or(unasked);
+        let asked = Asked {
+            which: which.unwrap_or(unasked),
+            edition,
+        };
         match (self, bank) {
-            (Kind::Cartridge(input), _) => Cartridge(&input.bytes).text(&which, bank),
+            (Kind::Cartridge(input), _) => Cartridge(&input.bytes).text(&asked, bank),
             (_, Some(_)) => Err("no cartridge, so it has no banks".to_string()),
-            (Kind::Dump(input), None) => Part::memory(&input.bytes, 0).text(&which),
-            (Kind::Image(image), None) => Part::memory(image.memory(), image.cpu.pc).text(&which),
+            (Kind::Dump(input), None) => Part::memory(&input.bytes, 0).text(&asked),
+            (Kind::Image(image), None) => Part::memory(image.memory(), image.cpu.pc).text(&asked),
         }
     }
 }
@@ -201,8 +212,18 @@ fn bank(given: &Given) -> Result<Option<usize>, Trouble> {
         .transpose()
 }
 
+/// The edition by its name, in small letters alone: help and pages show no other way.
+fn edition(given: &Given) -> Result<Edition, Trouble> {
+    match given.value("--edition") {
+        None => Ok(Edition::default()),
+        Some(value) if value == "old" => Ok(Edition::Old),
+        Some(value) if value == "new" => Ok(Edition::New),
+        Some(value) => Err(Trouble::wrong("--edition", value, "old or new")),
+    }
+}
+
 /// A file's bytes as they are, in the core's own text.
-fn part(file: &Path, given: &Given) -> Result<String, Trouble> {
+fn part(file: &Path, given: &Given, edition: Edition) -> Result<String, Trouble> {
     let of_kinds = ["--lines", "--bytes", "--bank"];
     if let Some(option) = of_kinds.iter().find(|option| given.has(option)) {
         let words = format!("{option} is not for --part, which lists all of FILE");
@@ -216,5 +237,5 @@ fn part(file: &Path, given: &Given) -> Result<String, Trouble> {
         let words = format!("found {} bytes, wanted at most {most}", input.length);
         return Err(Trouble::said(file, &words));
     }
-    Ok(listing(&input.bytes, first))
+    Ok(listing(&input.bytes, first, edition))
 }
