@@ -98,7 +98,7 @@ pub fn all() -> [Comparison; 31] {
         comparison("lengths", "every length one off each limit", Plain, lengths::lengths),
         comparison("heads", "each head byte at each of its values", Neither, saved::heads),
         comparison("images", "images opened and saved", Neither, saved::images),
-        comparison("listing", "parts as text in both editions, and no others", Neither, listing::listing),
+        comparison("listing", "parts as text, in both editions and no other", Neither, listing::listing),
         comparison("spellings", "a line's spelling stands for its bytes alone", Neither, spellings::spellings),
         comparison("program", "the program's text", Both, program::program),
     ]
