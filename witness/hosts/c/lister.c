@@ -13,9 +13,6 @@
 /* A line lists at least one byte, and none is longer than that of LD HL,SP+-$05. */
 enum { LONGEST_LINE = 24 };
 
-/* The editions are 1 and 2; some other numbers are let through to be refused. */
-enum { FIRST_LIMIT = 0xFFFF, EDITION_LIMIT = 0xFFFF };
-
 static int complain(const char *what)
 {
     fprintf(stderr, "lister: %s\n", what);
@@ -34,25 +31,24 @@ static uint8_t *whole_input(size_t *got)
     return part;
 }
 
-/* The number that a word is, all of it; one past the limit if it is none, or above it. */
-static unsigned long number(const char *word, int base, unsigned long limit)
+/* Whether all of a word is a number, and none above the limit. */
+static int is_number(const char *word, int base, unsigned long limit, unsigned long *value)
 {
     char *rest;
-    unsigned long value = strtoul(word, &rest, base);
 
-    return rest == word || *rest != '\0' || value > limit ? limit + 1 : value;
+    *value = strtoul(word, &rest, base);
+    return rest != word && *rest == '\0' && *value <= limit;
 }
 
 int main(int count, char **words)
 {
-    unsigned long first = count == 3 ? number(words[1], 16, FIRST_LIMIT) : FIRST_LIMIT + 1;
-    unsigned long edition = count == 3 ? number(words[2], 10, EDITION_LIMIT) : EDITION_LIMIT + 1;
+    unsigned long first, edition;
     size_t got, length, room;
     uint8_t *part, *text;
     unsigned code;
 
-    if (first > FIRST_LIMIT || edition > EDITION_LIMIT)
-        return complain("usage: lister FIRST EDITION, from 0 to FFFF and from 0 to 65535");
+    if (count != 3 || !is_number(words[1], 16, UINT16_MAX, &first) || !is_number(words[2], 10, UINT32_MAX, &edition))
+        return complain("usage: lister FIRST EDITION, from 0 to FFFF and from 0 to 4294967295");
     part = whole_input(&got);
     room = got * LONGEST_LINE;
     text = malloc(room + 1);
