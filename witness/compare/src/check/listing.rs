@@ -121,7 +121,9 @@ fn hold(
         "{who}, edition {edition}, with room for {room} of {}",
         text.len()
     );
-    same_lines(&who, wanted.as_bytes(), listed)?;
+    if (wanted_code, code) == (DONE, DONE) {
+        same_lines(&who, wanted.as_bytes(), listed)?;
+    }
     same(
         &format!("{who}: code and length"),
         (wanted_code, wanted.len()),
