@@ -59,6 +59,8 @@ pub struct Context {
     pub rng: Random,
     pub bench: Bench,
     pub tally: Tally,
+    /// What a comparison says beside its line.
+    pub notes: Vec<String>,
 }
 
 impl Context {
@@ -67,6 +69,7 @@ impl Context {
             rng: Random::new(seed, name),
             bench: Bench::new(),
             tally: Tally::default(),
+            notes: Vec::new(),
         }
     }
 

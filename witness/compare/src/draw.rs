@@ -1,6 +1,6 @@
 //! Random states and memories, with a liking for the edges.
 
-use crate::paper::{MEMORY_SIZE, STOP, UNDEFINED_BYTES};
+use crate::paper::{MEMORY_SIZE, NEW, OLD, STOP, UNDEFINED_BYTES};
 use random::Random;
 use second::{Ime, Mode, State};
 
@@ -19,6 +19,16 @@ pub fn address(rng: &mut Random) -> u16 {
     match rng.one_in(4) {
         true => rng.pick(&EDGES),
         false => rng.word(),
+    }
+}
+
+/// A number that is no edition's, though its low byte or word often is.
+pub fn no_edition(rng: &mut Random) -> u32 {
+    let edition = rng.pick(&[OLD, NEW]);
+    match rng.below(4) {
+        0 => edition + 0x100 * (1 + rng.below(0xFF_FFFF)),
+        1 => edition + 0x1_0000 * (1 + rng.below(0xFFFF)),
+        _ => 3 + rng.below(u32::MAX - 2),
     }
 }
 

@@ -2,7 +2,7 @@
 //! failure prints.
 
 use crate::answer::{hex, registers};
-use crate::paper::{HEAD_SIZE, IMAGE_SIZE, INPUT_SIZE, MEMORY_SIZE};
+use crate::paper::{self, HEAD_SIZE, IMAGE_SIZE, INPUT_SIZE, MEMORY_SIZE};
 use second::{Ime, Mode, State};
 use std::fmt;
 
@@ -28,7 +28,7 @@ pub enum Kind {
     /// A state block of any codes, saved and where it is refused stepped and run by the
     /// proved core's C interface; the number is the length of the slice for the head.
     Block,
-    /// The listing of a part of any length; the number is its first address.
+    /// The listing of a part of any length, in an edition; the number is its first address.
     List,
     /// The row of the opcode table that the number names.
     Row,
@@ -95,18 +95,24 @@ impl Kind {
         self == Kind::List
     }
 
+    pub fn has_edition(self) -> bool {
+        self == Kind::List
+    }
+
     fn form(self) -> &'static Form {
         let found = FORMS.iter().find(|form| form.kind == self);
         found.expect("every kind has a form")
     }
 }
 
-/// An input: of its four parts a kind uses some, and the others are empty.
+/// An input: of its parts a kind uses some, and the others are empty; the edition of a
+/// listing is the new one where nothing else is said.
 #[derive(Clone, PartialEq, Eq, Debug)]
 pub struct Input {
     pub kind: Kind,
     pub state: State,
     pub number: u32,
+    pub edition: u32,
     pub bytes: Vec<u8>,
 }
 
@@ -123,11 +129,19 @@ impl Input {
         Self::new(Kind::RunImage, State::default(), budget, image)
     }
 
+    pub fn list(part: Vec<u8>, first: u16, edition: u32) -> Self {
+        Input {
+            edition,
+            ..Self::new(Kind::List, State::default(), first.into(), part)
+        }
+    }
+
     pub fn new(kind: Kind, state: State, number: u32, bytes: Vec<u8>) -> Self {
         Input {
             kind,
             state,
             number,
+            edition: paper::NEW,
             bytes,
         }
     }
@@ -144,6 +158,9 @@ impl fmt::Display for Input {
         write!(out, "{}", form.name)?;
         if let Some(name) = form.number {
             write!(out, " {name}={}", self.number)?;
+        }
+        if self.kind.has_edition() {
+            write!(out, " edition={}", self.edition)?;
         }
         if form.state {
             write!(out, " {}", registers(&self.state))?;
@@ -194,6 +211,8 @@ fn read_word(form: &Form, input: &mut Input, word: &str) -> Option<()> {
         input.bytes = vec![0; size];
     } else if Some(name) == form.number {
         input.number = value.parse().ok()?;
+    } else if name == "edition" && form.kind.has_edition() {
+        input.edition = value.parse().ok()?;
     } else if form.state {
         read_register(&mut input.state, name, value)?;
     } else {
@@ -269,7 +288,8 @@ mod tests {
             Input::run_image(vec![7; IMAGE_SIZE], 100),
             Input::step(state, memory[1..].to_vec()),
             Input::bytes(Kind::Load, vec![9; 24]),
-            Input::new(Kind::List, State::default(), 0x150, vec![0x20, 0xF8, 0xD3]),
+            Input::list(vec![0x20, 0xF8, 0xD3], 0x150, paper::OLD),
+            Input::list(Vec::new(), 0xFFFF, u32::MAX),
             Input::new(Kind::Row, State::default(), 511, Vec::new()),
         ] {
             assert_eq!(parse(&words(&input.to_string())), Ok(input));
@@ -290,6 +310,9 @@ mod tests {
             "step size=99999999999",
             "load AF=0000",
             "row budget=1",
+            "row edition=1",
+            "list edition=-1",
+            "list edition=4294967296",
         ] {
             let error = parse(&words(text)).expect_err(text);
             let last = text.split(' ').next_back().expect("a last word");

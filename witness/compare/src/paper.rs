@@ -1,6 +1,6 @@
 //! What document 01 fixes outright, stated here once more and taken from no core:
 //! the refusals and their order, dispatch and HALT as M-100 of document 02 has them,
-//! the saved form, the program's text.
+//! the saved form, the program's text, and how M-102 has the old edition of a listing.
 
 use crate::answer::Answer;
 use second::{Ime, Mode, State};
@@ -27,6 +27,11 @@ pub const VERSION: u8 = 7;
 pub const BLOCK_LENGTH: u8 = 8;
 pub const STATE_CODE: u8 = 9;
 pub const ROOM: u8 = 10;
+pub const EDITION: u8 = 11;
+
+/// The editions of a listing.
+pub const OLD: u32 = 1;
+pub const NEW: u32 = 2;
 
 /// The bytes that are no opcode.
 pub const UNDEFINED_BYTES: [u8; 11] = [
@@ -153,11 +158,28 @@ pub fn save_code(state: &State, memory: Option<&[u8]>, length: usize) -> u8 {
     }
 }
 
-/// The code of listing a text of this length to an output of that one.
-pub fn list_code(length: usize, room: usize) -> u8 {
-    match room < length {
-        true => ROOM,
-        false => DONE,
+/// The code of listing a text of this length, in this edition, to an output of that one.
+pub fn list_code(edition: u32, length: usize, room: usize) -> u8 {
+    if ![OLD, NEW].contains(&edition) {
+        EDITION
+    } else if room < length {
+        ROOM
+    } else {
+        DONE
+    }
+}
+
+/// The old line for a new one, by the words of document 02's M-102: LDIO for LDH, LDI
+/// and LDD for the loads with HLI and HLD. Every other line is the same in both.
+pub fn old_line(new: &str) -> String {
+    if new.contains(" LDH ") {
+        new.replace(" LDH ", " LDIO ")
+    } else if new.contains("[HLI]") {
+        new.replace(" LD ", " LDI ").replace("[HLI]", "[HL]")
+    } else if new.contains("[HLD]") {
+        new.replace(" LD ", " LDD ").replace("[HLD]", "[HL]")
+    } else {
+        new.to_string()
     }
 }
 
@@ -272,6 +294,31 @@ mod tests {
             ..State::default()
         };
         assert_eq!(load(&head(&state)), (DONE, state));
+    }
+
+    #[test]
+    fn the_old_line_has_the_old_name() {
+        for (new, old) in [
+            ("0150 22 LD [HLI],A\n", "0150 22 LDI [HL],A\n"),
+            ("0150 3A LD A,[HLD]\n", "0150 3A LDD A,[HL]\n"),
+            ("0150 F080 LDH A,[$FF80]\n", "0150 F080 LDIO A,[$FF80]\n"),
+            ("0150 E2 LDH [C],A\n", "0150 E2 LDIO [C],A\n"),
+            ("0150 7E LD A,[HL]\n", "0150 7E LD A,[HL]\n"),
+            ("0150 FA80FF LD A,[$FF80]\n", "0150 FA80FF LD A,[$FF80]\n"),
+        ] {
+            assert_eq!(old_line(new), old);
+        }
+    }
+
+    #[test]
+    fn an_edition_comes_before_room() {
+        assert_eq!(list_code(OLD, 5, 5), DONE);
+        assert_eq!(list_code(NEW, 5, 4), ROOM);
+        for edition in [0, 3, 257, u32::MAX] {
+            assert_eq!(list_code(edition, 5, 5), EDITION);
+            assert_eq!(list_code(edition, 5, 4), EDITION);
+            assert_eq!(list_code(edition, 0, 0), EDITION);
+        }
     }
 
     #[test]

@@ -53,9 +53,9 @@ pub fn save_image(block: &Block, memory: &[u8], image: &mut [u8]) -> Option<u8> 
     call::save_image(block, memory, image)
 }
 
-/// Code and length of a part's listing, which is written to the front of `out`.
-pub fn list(part: &[u8], first: u16, out: &mut [u8]) -> Option<(u8, usize)> {
-    call::list(part, first, out)
+/// Code and length of a part's listing in an edition, which is written to the front of `out`.
+pub fn list(part: &[u8], first: u16, edition: u32, out: &mut [u8]) -> Option<(u8, usize)> {
+    call::list(part, first, edition, out)
 }
 
 /// Length and untaken cycles of a row of the opcode table.
@@ -112,9 +112,9 @@ mod call {
         Some(link::save_image(block, memory, image))
     }
 
-    pub fn list(part: &[u8], first: u16, out: &mut [u8]) -> Option<(u8, usize)> {
+    pub fn list(part: &[u8], first: u16, edition: u32, out: &mut [u8]) -> Option<(u8, usize)> {
         let mut length = UNWRITTEN_LENGTH;
-        let code = link::list(part, first, out, &mut length);
+        let code = link::list(part, first, edition, out, &mut length);
         Some((code, length))
     }
 
@@ -155,7 +155,7 @@ mod call {
         None
     }
 
-    pub fn list(_: &[u8], _: u16, _: &mut [u8]) -> Option<(u8, usize)> {
+    pub fn list(_: &[u8], _: u16, _: u32, _: &mut [u8]) -> Option<(u8, usize)> {
         None
     }
 

@@ -79,6 +79,9 @@ pub fn print_outcome(name: &str, context: &mut Context, start: Instant, outcome:
     let verdict = if outcome.is_ok() { "ok" } else { "FAILED" };
     let verdict = format!("{verdict}  {seconds:.1} s");
     print_line(name, columns(&context.tally), &verdict);
+    for note in &context.notes {
+        println!("  {note}");
+    }
     match outcome {
         Ok(()) => true,
         Err(failure) => {

@@ -2,6 +2,7 @@
 //! lowered, parts cut, registers and bytes made zero, as long as the failure persists.
 
 use crate::input::Input;
+use crate::paper::{NEW, OLD};
 use second::{Ime, Mode, State};
 use std::time::{Duration, Instant};
 
@@ -44,6 +45,7 @@ pub fn smallest(input: Input, fails: &mut dyn FnMut(&Input) -> bool) -> Input {
     };
     for _ in 0..ROUNDS {
         let before = search.input.clone();
+        search.edition();
         search.number();
         search.length();
         search.bytes(0, search.input.bytes.len());
@@ -68,6 +70,19 @@ impl Search<'_> {
             self.input = candidate;
         }
         kept
+    }
+
+    /// The new edition is the plainest, then the old one, then one of the numbers that are none.
+    fn edition(&mut self) {
+        let given = self.input.edition;
+        let plainer = [NEW, OLD, 0]
+            .into_iter()
+            .take_while(|edition| *edition != given);
+        for edition in plainer {
+            if self.keep(|input| input.edition = edition) {
+                return;
+            }
+        }
     }
 
     fn number(&mut self) {
@@ -117,7 +132,6 @@ impl Search<'_> {
 #[cfg(test)]
 mod tests {
     use super::*;
-    use crate::input::Kind;
 
     #[test]
     fn only_what_matters_stays() {
@@ -143,10 +157,24 @@ mod tests {
 
     #[test]
     fn a_part_is_cut_down() {
-        let part = |bytes| Input::new(Kind::List, State::default(), 0, bytes);
+        let part = |bytes| Input::list(bytes, 0, NEW);
         let mut bytes = vec![0x55; 1000];
         bytes[700] = 0x10;
         let mut fails = |input: &Input| input.bytes.windows(2).any(|pair| pair == [0x10, 0x55]);
         assert_eq!(smallest(part(bytes), &mut fails), part(vec![0x10, 0x55]));
+    }
+
+    #[test]
+    fn an_edition_becomes_the_plainest_that_fails() {
+        let made_of = |edition, fails: fn(u32) -> bool| {
+            let input = Input::list(vec![0x55], 0, edition);
+            smallest(input, &mut |input| fails(input.edition)).edition
+        };
+        assert_eq!(made_of(257, |_| true), NEW);
+        assert_eq!(made_of(OLD, |_| true), NEW);
+        assert_eq!(made_of(OLD, |edition| edition < NEW), OLD);
+        assert_eq!(made_of(257, |edition| edition != NEW), OLD);
+        assert_eq!(made_of(257, |edition| ![OLD, NEW].contains(&edition)), 0);
+        assert_eq!(made_of(257, |edition| edition == 257), 257);
     }
 }

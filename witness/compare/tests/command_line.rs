@@ -34,6 +34,7 @@ fn bad_usage_is_one_line_and_a_status() {
         &["again", "step", "AF=10000"],
         &["again", "row", "row=-1"],
         &["again", "list", "first=-1"],
+        &["again", "list", "edition=-1"],
         &["inputs"],
         &["inputs", ""],
         &["inputs", "a", "b"],
@@ -58,7 +59,7 @@ fn list_names_what_can_be_run() {
         .lines()
         .filter_map(|line| line.split(' ').next())
         .collect();
-    assert_eq!(names.len(), 30);
+    assert_eq!(names.len(), 31);
     let output = compare(&["--seed", "7", "daa", names[0]]);
     assert!(output.status.success());
     let printed = text(&output.stdout);
@@ -84,9 +85,12 @@ fn again_judges_one_input() {
     let agreed = compare(&["again", "step", "AF=9A00", "0000:27"]);
     assert!(agreed.status.success());
     assert!(text(&agreed.stdout).contains("mGBA"));
-    let part = compare(&["again", "list", "first=336", "size=3", "0000:20F8D3"]);
-    assert!(part.status.success());
-    assert!(text(&part.stdout).contains("the second program"));
+    for edition in ["edition=1", "edition=2", "edition=3"] {
+        let words = ["again", "list", "first=336", edition, "size=1", "0000:22"];
+        let part = compare(&words);
+        assert!(part.status.success());
+        assert!(text(&part.stdout).contains("the second program"));
+    }
     let far = compare(&["again", "list", "first=65536"]);
     assert_eq!(far.status.code(), Some(1));
     let judged_by_none = compare(&["again", "adding"]);

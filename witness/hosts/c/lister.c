@@ -1,8 +1,9 @@
 /*
- * M-101's listing over the C interface: the part on standard input is listed to
- * standard output, from the first address that the argument is in hexadecimal
- * digits. It is held against binutils' disassembler, so that the library is
- * judged as a C host links it.
+ * The listing of M-101 and M-102 over the C interface: the part on standard input
+ * is listed to standard output, from the first address, in hexadecimal digits, and
+ * in the edition that the arguments are. It is held against binutils' disassembler,
+ * which knows edition 2 and no refusals, so that the library is judged as a C host
+ * links it.
  */
 #include <stdio.h>
 #include <stdlib.h>
@@ -30,24 +31,34 @@ static uint8_t *whole_input(size_t *got)
     return part;
 }
 
+/* Whether all of a word is a number, and none above the limit. */
+static int is_number(const char *word, int base, unsigned long limit, unsigned long *value)
+{
+    char *rest;
+
+    *value = strtoul(word, &rest, base);
+    return rest != word && *rest == '\0' && *value <= limit;
+}
+
 int main(int count, char **words)
 {
-    char *rest = NULL;
-    unsigned long first = count == 2 ? strtoul(words[1], &rest, 16) : 0;
+    unsigned long first, edition;
     size_t got, length, room;
     uint8_t *part, *text;
     unsigned code;
 
-    if (rest == NULL || rest == words[1] || *rest != '\0' || first > 0xFFFF)
-        return complain("usage: lister FIRST, from 0 to FFFF");
+    if (count != 3 || !is_number(words[1], 16, UINT16_MAX, &first) || !is_number(words[2], 10, UINT32_MAX, &edition))
+        return complain("usage: lister FIRST EDITION, from 0 to FFFF and from 0 to 4294967295");
     part = whole_input(&got);
     room = got * LONGEST_LINE;
     text = malloc(room + 1);
     if (part == NULL || text == NULL || ferror(stdin))
         return complain("the part cannot be read");
-    code = trnadulek_list(part, got, (uint16_t)first, text, room, &length);
-    if (code != 0)
-        return complain("refused");
+    code = trnadulek_list(part, got, (uint16_t)first, (uint32_t)edition, text, room, &length);
+    if (code != 0) {
+        fprintf(stderr, "lister: refused with %u\n", code);
+        return 1;
+    }
     if (fwrite(text, 1, length, stdout) != length || fflush(stdout) != 0)
         return complain("the listing cannot be written");
     return 0;

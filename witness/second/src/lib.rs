@@ -1,5 +1,5 @@
 //! Witness one: a second program for the SM83, written from document 01, M-100
-//! and M-101 of document 02 and the rgbds instruction reference alone, to be held
+//! to M-102 of document 02 and the rgbds instruction reference alone, to be held
 //! against the proved core.
 //!
 //! Every opcode byte has a case of its own (`opcodes` and `prefixed`) and a

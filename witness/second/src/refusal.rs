@@ -11,6 +11,7 @@ pub const VERSION: u8 = 7;
 pub const BLOCK_LENGTH: u8 = 8;
 pub const STATE_CODE: u8 = 9;
 pub const ROOM: u8 = 10;
+pub const EDITION: u8 = 11;
 
 /// What a number means, in the words that the project has for it everywhere.
 pub fn sentence(code: u8) -> &'static str {
@@ -26,6 +27,7 @@ pub fn sentence(code: u8) -> &'static str {
         BLOCK_LENGTH => "a block length is not 14, or not 65,536",
         STATE_CODE => "IME code above 2, or mode code above 3",
         ROOM => "output too short",
+        EDITION => "edition number is neither 1 nor 2",
         _ => "no such refusal number",
     }
 }

@@ -230,13 +230,29 @@ fn save_refuses_what_no_saved_form_holds() {
 
 #[test]
 fn list_prints_the_standard_input_as_a_listing() {
-    let called = call(&["list", "0150"], &[0x20, 0xF8, 0xD3]);
+    let called = call(&["list", "0150", "2"], &[0x20, 0xF8, 0xD3]);
     let out = "0150 20F8 JR NZ,$014A\n0152 D3 DB $D3\n";
     assert_eq!((called.status, &*called.out), (0, out));
-    answers(&["list", "FFFF"], "");
-    let longer = call(&["list", "fFfF"], &[0x00; 70_000]);
+    answers(&["list", "FFFF", "1"], "");
+    let longer = call(&["list", "fFfF", "2"], &[0x00; 70_000]);
     assert_eq!((longer.status, longer.out.lines().count()), (0, 70_000));
     assert!(longer.out.starts_with("FFFF 00 NOP\n0000 00 NOP\n"));
+}
+
+#[test]
+fn list_takes_either_edition_and_no_other() {
+    let in_edition = |number| call(&["list", "0150", number], &[0x22, 0xF0, 0x80]).out;
+    assert_eq!(
+        in_edition("1"),
+        "0150 22 LDI [HL],A\n0151 F080 LDIO A,[$FF80]\n"
+    );
+    assert_eq!(
+        in_edition("2"),
+        "0150 22 LD [HLI],A\n0151 F080 LDH A,[$FF80]\n"
+    );
+    for number in ["0", "3", "257", "4294967295"] {
+        fails(&["list", "0150", number], 1, "refused with 11: ");
+    }
 }
 
 #[test]
@@ -252,9 +268,14 @@ fn bad_usage_is_one_line() {
     fails(&["run", &file, "-1", &out], 2, "BUDGET");
     fails(&["run", &file, "4294967296", &out], 2, "BUDGET");
     fails(&["list"], 2, "usage: ");
-    fails(&["list", "10000"], 2, "FIRST");
-    fails(&["list", "+1"], 2, "FIRST");
-    fails(&["list", ""], 2, "FIRST");
+    fails(&["list", "0"], 2, "usage: ");
+    fails(&["list", "0", "2", "2"], 2, "usage: ");
+    fails(&["list", "10000", "2"], 2, "FIRST");
+    fails(&["list", "+1", "2"], 2, "FIRST");
+    fails(&["list", "", "2"], 2, "FIRST");
+    fails(&["list", "0", ""], 2, "EDITION");
+    fails(&["list", "0", "old"], 2, "EDITION");
+    fails(&["list", "0", "4294967297"], 2, "EDITION");
     fails(&["load", &folder.path("absent")], 2, "cannot read");
     fails(&["load", &folder.path("")], 2, "cannot read");
     assert!(!folder.has("out"));

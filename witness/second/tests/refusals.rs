@@ -203,6 +203,7 @@ fn every_number_has_its_words() {
         (8, "a block length is not 14, or not 65,536"),
         (9, "IME code above 2, or mode code above 3"),
         (10, "output too short"),
+        (11, "edition number is neither 1 nor 2"),
     ];
     for (number, words) in table {
         assert_eq!(second::sentence(number), words);

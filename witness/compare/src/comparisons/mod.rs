@@ -14,6 +14,7 @@ mod rows;
 mod run_image;
 mod runs;
 mod saved;
+mod spellings;
 mod table;
 mod words;
 mod wrap;
@@ -67,7 +68,7 @@ fn comparison(
 
 /// All of them, in the order in which they are run.
 #[rustfmt::skip] // One line for each.
-pub fn all() -> [Comparison; 30] {
+pub fn all() -> [Comparison; 31] {
     [
         comparison("cases", "the twelve cases of document 01", Both, cases::cases),
         comparison("table", "every row, and rows above 511", Mgba, table::table),
@@ -97,7 +98,8 @@ pub fn all() -> [Comparison; 30] {
         comparison("lengths", "every length one off each limit", Plain, lengths::lengths),
         comparison("heads", "each head byte at each of its values", Neither, saved::heads),
         comparison("images", "images opened and saved", Neither, saved::images),
-        comparison("listing", "every opcode and random parts as text", Neither, listing::listing),
+        comparison("listing", "parts as text, in both editions and no other", Neither, listing::listing),
+        comparison("spellings", "a line's spelling stands for its bytes alone", Neither, spellings::spellings),
         comparison("program", "the program's text", Both, program::program),
     ]
 }

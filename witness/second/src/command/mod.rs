@@ -10,7 +10,8 @@ use second::{State, HEAD_SIZE, IMAGE_SIZE, INPUT_SIZE, MEMORY_SIZE};
 use std::ffi::{OsStr, OsString};
 
 const USAGE: &str = "usage: second program | table | step IMAGE OUT | run IMAGE BUDGET OUT \
-                     | load FILE | save OUT AF BC DE HL SP PC IME MODE [MEMORY] | list FIRST";
+                     | load FILE | save OUT AF BC DE HL SP PC IME MODE [MEMORY] \
+                     | list FIRST EDITION";
 
 /// AF BC DE HL SP PC IME MODE.
 const REGISTERS: usize = 8;
@@ -28,7 +29,7 @@ pub fn perform(arguments: &[OsString]) -> Result<(), Failure> {
         (Some("run"), [image, budget, out]) => run(image, budget, out),
         (Some("load"), [file]) => load(file),
         (Some("save"), [out, registers @ ..]) => save(out, registers),
-        (Some("list"), [first]) => list(first),
+        (Some("list"), [first, edition]) => list(first, edition),
         _ => Err(usage(USAGE)),
     }
 }
@@ -99,10 +100,12 @@ fn save(out: &OsStr, operands: &[OsString]) -> Result<(), Failure> {
     say("0\n")
 }
 
-/// Lists the standard input as a part that begins at an address.
-fn list(first: &OsStr) -> Result<(), Failure> {
+/// Lists the standard input as a part that begins at an address, in an edition.
+fn list(first: &OsStr, edition: &OsStr) -> Result<(), Failure> {
     let first = numbers::word("FIRST", first)?;
-    say(&second::listing(&read_all_input()?, first))
+    let edition = numbers::decimal("EDITION", edition)?;
+    let text = second::listing(&read_all_input()?, first, edition);
+    say(&text.map_err(Failure::Refusal)?)
 }
 
 fn open(file: &OsStr) -> Result<(State, Vec<u8>), Failure> {

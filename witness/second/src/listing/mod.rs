@@ -1,14 +1,19 @@
-//! The listing of M-101: bytes as text, a line for each instruction.
+//! The listing of M-101: bytes as text, a line for each instruction, in either of
+//! M-102's two spellings.
 
 mod spellings;
 
 use crate::refusal;
-use spellings::{PREFIXED, UNPREFIXED};
+use spellings::{OLD, PREFIXED, UNPREFIXED};
 
-/// Lists a part that begins at an address: the code, and how much was written
-/// to the front of `out`. Without room for all of it nothing is written.
-pub fn list(part: &[u8], first: u16, out: &mut [u8]) -> (u8, usize) {
-    let text = listing(part, first);
+/// Lists a part that begins at an address, in the edition of this number: the code,
+/// and how much was written to the front of `out`. Without such an edition, or room
+/// for all of it, nothing is written.
+pub fn list(part: &[u8], first: u16, edition: u32, out: &mut [u8]) -> (u8, usize) {
+    let text = match listing(part, first, edition) {
+        Ok(text) => text,
+        Err(code) => return (code, 0),
+    };
     match out.get_mut(..text.len()) {
         Some(room) => {
             room.copy_from_slice(text.as_bytes());
@@ -18,13 +23,36 @@ pub fn list(part: &[u8], first: u16, out: &mut [u8]) -> (u8, usize) {
     }
 }
 
-/// The whole text of a part that begins at an address.
-pub fn listing(part: &[u8], first: u16) -> String {
+/// The whole text of a part that begins at an address, or the code of a number that
+/// is no edition's.
+pub fn listing(part: &[u8], first: u16, edition: u32) -> Result<String, u8> {
+    let text_of = match edition {
+        1 => old_text,
+        2 => new_text,
+        _ => return Err(refusal::EDITION),
+    };
+    Ok(lines(part, first, text_of))
+}
+
+/// How an edition spells an opcode without a prefix.
+type TextOf = fn(u8) -> &'static str;
+
+fn new_text(opcode: u8) -> &'static str {
+    UNPREFIXED[usize::from(opcode)]
+}
+
+fn old_text(opcode: u8) -> &'static str {
+    let old = OLD.iter().find(|(spelled, _)| *spelled == opcode);
+    old.map_or_else(|| new_text(opcode), |(_, text)| text)
+}
+
+fn lines(part: &[u8], first: u16, text_of: TextOf) -> String {
     let mut text = String::new();
     let mut address = first;
     let mut rest = part;
     while !rest.is_empty() {
-        let (taken, spelling) = instruction(rest, address).unwrap_or_else(|| data(rest[0]));
+        let read = instruction(rest, address, text_of);
+        let (taken, spelling) = read.unwrap_or_else(|| data(rest[0]));
         let (bytes, after) = rest.split_at(taken);
         text += &format!("{address:04X} {} {spelling}\n", digits(bytes));
         address = address.wrapping_add(taken as u16);
@@ -35,11 +63,11 @@ pub fn listing(part: &[u8], first: u16) -> String {
 
 /// The bytes of the first instruction and its spelling. Nothing where the bytes
 /// end before it does, or where none begins with them.
-fn instruction(bytes: &[u8], address: u16) -> Option<(usize, String)> {
+fn instruction(bytes: &[u8], address: u16, text_of: TextOf) -> Option<(usize, String)> {
     match *bytes {
         [0x10, 0x00, ..] => Some((2, "STOP".to_string())),
         [0xCB, second, ..] => Some((2, PREFIXED[usize::from(second)].to_string())),
-        [opcode, ref after @ ..] => spelled(UNPREFIXED[usize::from(opcode)], after, address),
+        [opcode, ref after @ ..] => spelled(text_of(opcode), after, address),
         [] => None,
     }
 }

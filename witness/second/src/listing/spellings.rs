@@ -3,8 +3,21 @@
 //! `port` the low byte of an address from $FF00 on, `target` the byte that says
 //! how far JR goes.
 
-/// The bytes without a prefix. Empty for an undefined one, for the prefix $CB, and
-/// for $10, which is STOP only together with the byte after it.
+/// What the old edition has where it parts from the texts below: the names LDIO, LDI
+/// and LDD, by the remarks that documents 002 to 004 have on these.
+pub static OLD: [(u8, &str); 8] = [
+    (0x22, "LDI [HL],A"),
+    (0x2A, "LDI A,[HL]"),
+    (0x32, "LDD [HL],A"),
+    (0x3A, "LDD A,[HL]"),
+    (0xE0, "LDIO [port],A"),
+    (0xE2, "LDIO [C],A"),
+    (0xF0, "LDIO A,[port]"),
+    (0xF2, "LDIO A,[C]"),
+];
+
+/// The bytes without a prefix, in the new edition. Empty for an undefined one, for the
+/// prefix $CB, and for $10, which is STOP only together with the byte after it.
 #[rustfmt::skip] // Sixteen bytes are four lines.
 pub static UNPREFIXED: [&str; 256] = [
     "NOP",              "LD BC,word",   "LD [BC],A",      "INC BC",     // 00
