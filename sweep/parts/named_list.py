@@ -13,6 +13,9 @@ FORMS = "listing/src/forms.rt"
 LINES = "listing/src/lines.rt"
 LINE_OF = "listing/specs/Lines.antt"
 LISTED = "listing/specs/Answer.antt"
+SPELLED = "listing/specs/Spelling.antt"
+LIST = "listing/src/lib.rt"
+ELEVEN = "11 when not (eqb edition 1 || eqb edition 2)"
 
 EASY = [
     Change(
@@ -138,7 +141,7 @@ LISTING = [
     Change("an instruction that the end cuts is listed whole", (READ, "(left < size)", "(left < 1)")),
     Change(
         "the byte after a $10 that is data is skipped",
-        (LINE_OF, "(length (lineOf a (b ∷ bytes) .bytes) - 1) bytes", "(sizeIn (b ∷ bytes) - 1) bytes"),
+        (LINE_OF, "(length (lineOf e a (b ∷ bytes) .bytes) - 1) bytes", "(sizeIn (b ∷ bytes) - 1) bytes"),
     ),
     Change("a $10 before any byte is STOP", (READ, "(n8 != 0)", "(n8 != n8)")),
     Change(
@@ -152,13 +155,13 @@ LISTING = [
     Change(
         "the address of a line does not wrap",
         (LINE_OF, "use Prim.Native.Nat.{ℕ, zero, suc, _-_}", "use Prim.Native.Nat.{ℕ, zero, suc, _-_, min}"),
-        (LINE_OF, "= linesFrom (further 1 a) few bytes", "= linesFrom (min (suc a) 0xFFFF) few bytes"),
-        (LINE_OF, "linesFrom (further 1 a) (length", "linesFrom (min (suc a) 0xFFFF) (length"),
+        (LINE_OF, "= linesFrom e (further 1 a) few bytes", "= linesFrom e (min (suc a) 0xFFFF) few bytes"),
+        (LINE_OF, "linesFrom e (further 1 a) (length", "linesFrom e (min (suc a) 0xFFFF) (length"),
     ),
     Change(
         "one byte too few is asked of the output",
         (LISTED, "use Prim.Native.Nat.{ℕ}", "use Prim.Native.Nat.{ℕ, suc}"),
-        (LISTED, "(leb (length (listingOf first part)) (length out))", "(leb (length (listingOf first part)) (suc (length out)))"),
+        (LISTED, "10 when ltb (length out) (length text)", "10 when ltb (suc (length out)) (length text)"),
     ),
     Change("an output just long enough is refused", (LINES, "if room - length < wide {", "if room - length <= wide {")),
     Change(
@@ -167,9 +170,38 @@ LISTING = [
         (LISTED, "length = 0 }; out = out }", "length = 0 }; out = take (length out) text }"),
     ),
     Change("a text that is too long is written as far as it goes", (LINES, "return Measured::TooLong;", "return Measured::Fits(length);")),
-    Change("the misprint of the reference, LD [HL],A for $22, is followed", (FORMS, "BC..DE..HLI.HLD.", "BC..DE..HL..HLD.")),
-    Change("a destination A is left out", (FORMS, "a A,z....", "a z......")),
+    Change("the misprint of the reference, LD [HL],A for $22, is followed", (FORMS, "Edition::New => step(p, end, out)", "Edition::New => step(p % 2 * p, end, out)")),
+    Change("a destination A is left out", (FORMS, "a A,z...", "a z.....")),
     Change("a byte needs at most 18 characters", (LINE_OF, "mostListed = 19", "mostListed = 18")),
+]
+
+EDITIONS = [
+    Change("[HL] for [HLI]: two instructions, one spelling", (SPELLED, 'pointer.Hli = Named "[HLI]"', 'pointer.Hli = Named "[HL]"')),
+    Change(
+        "STOP for any second byte",
+        (LINE_OF, "not (eqb (byteIn 1 bytes) 0x00)", "not (eqb (byteIn 1 bytes) (byteIn 1 bytes))"),
+    ),
+    Change("LDH spelled as LD", (SPELLED, 'two "LDH" (Of atHigh n) (Named "A")', 'two "LD" (Of atHigh n) (Named "A")')),
+    Change("the vector of RST in one digit", (SPELLED, "constantText next vec v = hex 2 v", "constantText next vec v = hex 1 v")),
+    Change("two digits for n16", (SPELLED, "constantText next n16 w = hex 4 w", "constantText next n16 w = hex 2 w")),
+    Change(
+        "10 before 11",
+        (LISTED, f"{ELEVEN} ∷ roomRefusals text out", f"10 when ltb (length out) (length text) ∷ {ELEVEN} ∷ []"),
+    ),
+    Change(
+        "edition 0 taken as 1",
+        (LISTED, "{eqb, ltb}", "{eqb, leb, ltb}"),
+        (LISTED, "editionIf (eqb number 1)", "editionIf (leb number 1)"),
+        (LISTED, ELEVEN, ELEVEN.replace("eqb edition 1", "leb edition 1")),
+    ),
+    Change("edition 0 taken", (LIST, "(edition != 1) &", "(edition > 1) &")),
+    Change("edition 3 taken", (LIST, "& (edition != 2)", "& (edition > 3)")),
+    Change("the editions exchanged", (LIST, "if edition == 1 {", "if edition == 2 {")),
+    Change("11 answered as 10", (LIST, "code: 11,", "code: 10,")),
+    Change("LDI for LDD", (FORMS, "3 => writing::push(b'D', at, out)", "3 => writing::push(b'I', at, out)")),
+    Change("LDI for LDD, by the definition", (SPELLED, '0x32 spelled two "LDD"', '0x32 spelled two "LDI"')),
+    Change("a ninth row in the old edition: LDI for LD [DE],A", (SPELLED, "    0x22 spelled two", '    0x12 spelled two "LDI" (Named "[DE]") (Named "A")\n    ∷ 0x22 spelled two')),
+    Change("the old spelling in the new edition", (SPELLED, "spellingIn New op n w = spellingOf (decodeOf op n w)", "spellingIn New op n w = spellingIn Old op n w")),
 ]
 
 CHEATS = [
@@ -214,14 +246,15 @@ CHEATS = [
         (LINES, "Listed { code: 0, length }", "Listed { code: 0, length: 0 }"),
         (LINES, "code: 10,", "code: 0,"),
     ),
-    Change("two rows of the listing's table are exchanged", (FORMS, "DI.......EI.......", "EI.......DI.......")),
+    Change("two rows of the listing's table are exchanged", (FORMS, "DI......EI......", "EI......DI......")),
     Change("a listing has DB for everything", (READ, "(form == kinds::DATA)", "(form == form)")),
-    Change("a listing has DB for everything, by the definition", (LINE_OF, "lineIf (isData bytes) a bytes", "lineIf true a bytes")),
+    Change("a listing has DB for everything, by the definition", (LINE_OF, "lineIf (isData bytes) e a bytes", "lineIf true e a bytes")),
 ]
 
 GROUPS = {
     "errors that come easily": EASY,
     "instructions and refusals": INSTRUCTIONS,
     "the listing": LISTING,
+    "the editions of the listing": EDITIONS,
     "cheats": CHEATS,
 }
