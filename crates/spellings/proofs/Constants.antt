@@ -1,16 +1,16 @@
 -- A constant is read back from its text: the digits make the number again, the sign and the target the signed byte.
 -- Assumes nothing.
-use Prim.Native.Nat.{ℕ, _+_, _-_, _*_, _%_, _^_, _<_, _≤_}
-use mathlib.Core.Bool.{Bool, true, false, not, _&&_}
+use Prim.Native.Nat.{ℕ, _+_, _-_, _*_, _%_, _^_, _<_}
+use mathlib.Core.Bool.{Bool, true, false}
 use mathlib.Core.List.{List, [], _∷_, map}
-use mathlib.Core.Path.{_≡_, refl, _∙_, ap}
+use mathlib.Core.Path.{_≡_, refl, _∙_}
 use native.Mathlib.Nat.{mod-eq-of-lt, mod-lt}
 use native.Mathlib.Omega.{arith}
 use borrow.Author.Tests.{ltb-true, ltb-false}
 use lib.Dec.{eqb, ltb, lit<}
 use lib.ListN.{drop, getD}
 use Rattle.arith.specs.Width.{sumOf, differenceOf}
-use Rattle.arith.specs.Words.{wordOf, lowOf, further, offsetBy, offsetOf}
+use Rattle.arith.specs.Words.{wordOf, offsetBy, offsetOf}
 use Rattle.digits.specs.Ascii.{ascii}
 use Rattle.digits.specs.Digits.{worthOf, digitsOf}
 use Rattle.digits.specs.Numerals.{glyphOf, hexText, widthIf, widthOf, decimalText}

@@ -2,8 +2,8 @@
 -- address and the same spellings are the same bytes.
 -- Assumes nothing.
 use Prim.Native.Nat.{ℕ, zero, suc, _+_, _≤_, _<_}
-use mathlib.Core.Bool.{Bool, true, false, _||_, _&&_, not, true≢false}
-use mathlib.Core.List.{List, [], _∷_, _++_, map}
+use mathlib.Core.Bool.{Bool, true, false, _&&_, not, true≢false}
+use mathlib.Core.List.{List, [], _∷_, _++_}
 use mathlib.Core.Path.{_≡_, refl, sym, _∙_, ap}
 use native.Mathlib.Nat.{le-refl, le-of-suc-le-suc}
 use native.Mathlib.Omega.{arith}
@@ -18,7 +18,7 @@ use Rattle.digits.proofs.Digits.{below-rest}
 use Rattle.digits.proofs.Places.{ByteList, bytesAt, part-bytes}
 use Rattle.insn.specs.Grid.{decodeOf}
 use Rattle.insn.specs.Shapes.{isUndefined}
-use Rattle.listing.specs.Spelling.{n8, Shown, Named, Of, spellingIn, dataOf, constantText, spellingText}
+use Rattle.listing.specs.Spelling.{n8, Shown, Named, Of, changedIf, spellingIn, dataOf, constantText, spellingText}
 use Rattle.listing.specs.Forms.{textIf, numberIf}
 use Rattle.listing.specs.Lines.{Line, insnIn, spelledIn, sizeIn, isData, lineIf, lineOf, linesFrom, linesOf}
 use Rattle.listing.specs.declared.Edition.{Edition}
@@ -27,7 +27,7 @@ use Rattle.listing.proofs.Order.{or-left, or-right, whole, size-some, size-few,
 use Rattle.spellings.specs.Determined.{LineIn, LineDetermined, spellingsOf, PartDetermined}
 use Rattle.spellings.proofs.Outline.{Split, splits, splitInto, Shows, constantIn, outlineOf, spelling-splits}
 use Rattle.spellings.proofs.Constants.{numberIn, constant-is, number-back}
-use Rattle.spellings.proofs.Rows.{rowOf, kindOf, kindAt, encoded, held, size, insnBytes, FitsIn, row-data, next-is, Recovered, recovered}
+use Rattle.spellings.proofs.Rows.{rowOf, kindOf, kindAt, encoded, held, size, insnBytes, FitsIn, row-data, next-is, recovered}
 
 -- an operand from its kind and the text of its constant
 abbrev operandBack : ℕ → Shown → List ℕ → Shown
@@ -71,7 +71,7 @@ unfolding ascii
 data-splits next b h = spelling-splits next (dataOf b) refl refl (shows next (Of n8 b) h)
 
 data-kind : kindAt 512 ≡ Of n8 0
-unfolding kindAt
+unfolding kindAt changedIf
 data-kind = refl
 
 data-encoded : (b : ℕ) → encoded 512 (Of n8 b) ≡ b ∷ []

@@ -4,7 +4,7 @@
 use Prim.Native.Nat.{ℕ}
 use mathlib.Core.Bool.{Bool, true, false, not, _||_, _&&_, and-eq-true-iff, true≢false}
 use mathlib.Core.List.{List, [], _∷_, _++_, append-assoc, append-nil}
-use mathlib.Core.Path.{_≡_, refl, sym, _∙_, ap}
+use mathlib.Core.Path.{_≡_, refl, sym, ap}
 use borrow.Author.Tests.{not-true}
 use lib.Dec.{eqb, leb}
 use Rattle.digits.specs.Ascii.{ascii}
@@ -52,7 +52,7 @@ abbrev pub isConstant : List ℕ → Bool
 isConstant [] = false
 isConstant (c ∷ cs) = starts c && inner cs
 
-both : (t u : Bool) → (t && u) ≡ true → (t ≡ true) × (u ≡ true)
+pub both : (t u : Bool) → (t && u) ≡ true → (t ≡ true) × (u ≡ true)
 both t u = and-eq-true-iff t u .0
 
 outside : (xs rest : List ℕ) → free xs ≡ true → splits false (xs ++ rest) ≡ joinSplit xs [] (splits false rest)

@@ -1,11 +1,11 @@
 -- The table of spellings read backwards, over both editions: an outline tells the row, and the row with the constant tells the bytes.
 -- antt computes it for every opcode, whatever follows.
 -- Assumes nothing.
-use Prim.Native.Nat.{ℕ, zero, suc, _+_, _-_, _*_, _/_, _%_, _<_, _≤_}
-use mathlib.Core.Bool.{Bool, true, false, not, _||_, _&&_, and-eq-true-iff}
+use Prim.Native.Nat.{ℕ, zero, suc, _+_, _-_, _*_, _/_, _%_, _<_}
+use mathlib.Core.Bool.{Bool, true, false, not, _||_, _&&_}
 use mathlib.Core.List.{List, [], _∷_, _++_}
-use mathlib.Core.Path.{_≡_, refl, sym, _∙_, ap}
-use native.Mathlib.Nat.{add-zero, zero-add, add-suc, suc-add}
+use mathlib.Core.Path.{_≡_, refl, _∙_, ap}
+use native.Mathlib.Nat.{add-zero, zero-add}
 use native.Mathlib.Omega.{arith}
 use borrow.Author.Tests.{eqb-true, not-true}
 use lib.Dec.{eqb, leb, ltb}
@@ -14,12 +14,12 @@ use Rattle.digits.specs.Ascii.{ascii}
 use Rattle.insn.specs.Grid.{grid, decodeOf}
 use Rattle.insn.specs.Shapes.{shapes, shapeOf, isUndefined}
 use Rattle.insn.proofs.Entries.{tabulate}
-use Rattle.listing.specs.Spelling.{Kind, n8, n16, atN16, atHigh, e8, spPlusE8, target, u3, vec, Shown, Named, Of, Spelling, alone, spellings, spellingIn, dataOf}
+use Rattle.listing.specs.Spelling.{Kind, n8, n16, atN16, atHigh, e8, spPlusE8, target, u3, vec, Shown, Named, Of, Spelling, alone, spellings, changedIf, spellingIn, dataOf}
 use Rattle.listing.specs.Forms.{numberIf, textIf}
 use Rattle.listing.specs.declared.Edition.{Edition}
 use Rattle.listing.specs.declared.Edition.the-variants.{Old, New}
 use Rattle.listing.proofs.Opcodes.{each-opcode}
-use Rattle.spellings.proofs.Outline.{free, outlineOf, constantOf, constantIn, oneConstant}
+use Rattle.spellings.proofs.Outline.{both, free, outlineOf, constantOf, constantIn, oneConstant}
 use Rattle.spellings.proofs.Constants.{Fits}
 
 -- a row by its number: below 256 an opcode, below 512 one behind $CB, and 512 is data
@@ -39,13 +39,9 @@ pub record Entry : Type 0 where
 abbrev entryOf : ℕ → Spelling → Entry
 entryOf k s = record { row = k; outline = outlineOf s }
 
-abbrev spellingIf : Bool → Spelling → Spelling → Spelling
-spellingIf true s other = s
-spellingIf false s other = other
-
 -- $CB itself has no spelling
 abbrev unprefixed : Edition → ℕ → Entry
-unprefixed e op = entryOf op (spellingIf (eqb op 0xCB) (alone "") (spellingIn e op 0 0))
+unprefixed e op = entryOf op (changedIf (eqb op 0xCB) (alone "") (spellingIn e op 0 0))
 
 abbrev prefixed : ℕ → Entry
 prefixed n = entryOf (256 + n) (spellingIn New 0xCB n 0)
@@ -60,9 +56,9 @@ same [] (y ∷ ys) = false
 same (x ∷ xs) [] = false
 same (x ∷ xs) (y ∷ ys) = eqb x y && same xs ys
 
--- the first row that has an outline
+-- the first row that has an outline; 513 is none
 unfoldable pub findIn : List Entry → List ℕ → ℕ
-findIn [] t = 512
+findIn [] t = 513
 findIn (r ∷ rs) t = numberIf (same (r .outline) t) (r .row) (findIn rs t)
 
 unfoldable pub rowOf : List ℕ → ℕ
@@ -91,9 +87,6 @@ rows-old = refl
 pub row-data : (b : ℕ) → rowOf (outlineOf (dataOf b)) ≡ 512
 unfolding grid spellings ascii findIn numberIf rowOf
 row-data b = refl
-
-both : (t u : Bool) → (t && u) ≡ true → (t ≡ true) × (u ≡ true)
-both t u = and-eq-true-iff t u .0
 
 found-at : (rows : List Entry) (f : ℕ → Entry) (n i k : ℕ) → findsAll rows (tabulate f i n) ≡ true → k < n → finds rows (f (i + k)) ≡ true
 found-at rows f zero i k all h = absurd (omega arith)
@@ -149,7 +142,7 @@ kindOf (Of k n) = Of k 0
 
 abbrev rowSpelling : ℕ → Spelling
 rowSpelling k =
-    spellingIf (eqb k 512) (dataOf 0) (spellingIf (ltb k 256) (spellingIn New k 0 0) (spellingIn New 0xCB (k - 256) 0))
+    changedIf (eqb k 512) (dataOf 0) (changedIf (ltb k 256) (spellingIn New k 0 0) (spellingIn New 0xCB (k - 256) 0))
 
 unfoldable pub kindAt : ℕ → Shown
 kindAt row = kindOf (constantOf (rowSpelling row .operands))
