@@ -37,9 +37,9 @@ module _ (edition first : ℕ) (part out : List ℕ) where
   text = listingOf (editionOf edition) first part
 
   -- 11 comes first, whatever the part and the output
-  pub unknown : (eqb edition 1 || eqb edition 2) ≡ false → listOf edition first part out ≡ refusedBy 11 out
+  pub no-such-edition : (eqb edition 1 || eqb edition 2) ≡ false → listOf edition first part out ≡ refusedBy 11 out
   unfolding listOf listBy listUnless listRefusals roomRefusals order
-  unknown k = rw k
+  no-such-edition k = rw k
 
   module _ (known : (eqb edition 1 || eqb edition 2) ≡ true) where
     pub by-room : listOf edition first part out ≡ listInto text out

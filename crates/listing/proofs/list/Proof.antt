@@ -18,7 +18,7 @@ use Rattle.listing.specs.declared.Listed.{Listed}
 use Rattle.listing.specs.Forms.{textIf, marksText, formIn, operands, forms, formAt}
 use Rattle.listing.specs.declared.Edition.{Edition}
 use Rattle.listing.specs.declared.Edition.the-variants.{Old, New}
-use Rattle.listing.proofs.Answers.{unknown, by-room}
+use Rattle.listing.proofs.Answers.{no-such-edition, by-room}
 use Rattle.listing.proofs.Opcodes.{each-opcode}
 use Rattle.listing.proofs.list.Statement.{statement}
 use Rattle.listing.proofs.list.Tie as tie
@@ -61,7 +61,7 @@ one-of false false e = sym e
 
 module _ (edition first : ℕ) (part out : List ℕ) where
   refuses : (not (eqb edition 1) && not (eqb edition 2)) ≡ true → Lists (listOf edition first part out) (record { code = 11; length = 0 }) out
-  refuses h = rw (unknown edition first part out (neither (eqb edition 1) (eqb edition 2) h)) (record { answers = refl; leaves = refl })
+  refuses h = rw (no-such-edition edition first part out (neither (eqb edition 1) (eqb edition 2) h)) (record { answers = refl; leaves = refl })
 
   lists : (e : Edition) (r : Listed) (left : List ℕ) → (not (eqb edition 1) && not (eqb edition 2)) ≡ false → e ≡ editionOf edition
       → Lists (listInto (listingOf e first part) out) r left → Lists (listOf edition first part out) r left
