@@ -1,8 +1,8 @@
 """Numbers as they are written, and those that stand near them."""
 import re
 
-# a comma right before digits stands in the words of a refusal, between thousands
-NUMBER = re.compile(r"(?<![\w·.,\-])(0x[0-9A-Fa-f]+|\d[\d_]*)(?![\w])")
+# a comma right before digits stands in the words of a refusal, between thousands, and a $ in a spelling
+NUMBER = re.compile(r"(?<![\w·.,\-$])(0x[0-9A-Fa-f]+|\d[\d_]*)(?![\w])")
 
 
 def written(value, like):
