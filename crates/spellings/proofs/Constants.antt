@@ -132,15 +132,15 @@ Fits vec n = n < 256
 
 pub constant-is : (next : ℕ) (k : Kind) (n : ℕ) → Fits k n → isConstant (constantText next k n) ≡ true
 unfolding constantText signedText
-constant-is next n8 n h = hex-constant 2 n
-constant-is next n16 n h = hex-constant 4 n
-constant-is next atN16 n h = hex-constant 4 n
-constant-is next atHigh n h = hex-constant 4 (wordOf 0xFF n)
+constant-is next n8 n h = hex-constant _ n
+constant-is next n16 n h = hex-constant _ n
+constant-is next atN16 n h = hex-constant _ n
+constant-is next atHigh n h = hex-constant _ (wordOf 0xFF n)
 constant-is next e8 n h = signed-constant-if (ltb n 0x80) n
 constant-is next spPlusE8 n h = signed-constant-if (ltb n 0x80) n
-constant-is next target n h = hex-constant 4 (offsetOf n next)
+constant-is next target n h = hex-constant _ (offsetOf n next)
 constant-is next u3 n h = decimal-constant n h
-constant-is next vec n h = hex-constant 2 n
+constant-is next vec n h = hex-constant _ n
 
 -- the number of a constant from its text, where the next instruction stands at next
 abbrev pub numberIn : ℕ → Kind → List ℕ → ℕ
