@@ -200,8 +200,18 @@ EDITIONS = [
     Change("11 answered as 10", (LIST, "code: 11,", "code: 10,")),
     Change("LDI for LDD", (FORMS, "3 => writing::push(b'D', at, out)", "3 => writing::push(b'I', at, out)")),
     Change("LDI for LDD, by the definition", (SPELLED, '0x32 spelled two "LDD"', '0x32 spelled two "LDI"')),
-    Change("a ninth row in the old edition: LDI for LD [DE],A", (SPELLED, "    0x22 spelled two", '    0x12 spelled two "LDI" (Named "[DE]") (Named "A")\n    ∷ 0x22 spelled two')),
-    Change("the old spelling in the new edition", (SPELLED, "spellingIn New op n w = spellingOf (decodeOf op n w)", "spellingIn New op n w = spellingIn Old op n w")),
+    Change(
+        "a ninth row in the old edition: LDI for LD [DE],A",
+        (SPELLED, "    0x22 spelled two", '    0x12 spelled two "LDI" (Named "[DE]") (Named "A")\n    ∷ 0x22 spelled two'),
+    ),
+    Change(
+        "the old spelling in the new edition",
+        (
+            SPELLED,
+            "spellingIn New op n w = spellingOf (decodeOf op n w)",
+            "spellingIn New op n w = changedBy (oldRows n) op (spellingOf (decodeOf op n w))",
+        ),
+    ),
 ]
 
 CHEATS = [
