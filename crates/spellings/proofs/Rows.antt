@@ -231,12 +231,19 @@ unfolding grid shapes spellings ascii numberIf textIf encoded kindAt
 told Old = each-opcode (one Old) (other Old) nothing (λ n w. refl) (λ w. refl)
 told New = each-opcode (one New) (other New) nothing (λ n w. refl) (λ w. refl)
 
--- only the target of JR looks at the next address, and JR has two bytes
+-- the text of an opcode's constant, where the next instruction stands at next
+abbrev constantAt : Edition → ℕ → ℕ → ℕ → ℕ → List ℕ
+constantAt e next op n w = constantIn next (held e op n w)
+
+abbrev constantBehind : Edition → ℕ → ℕ → ℕ → ℕ → List ℕ
+constantBehind e a op n w = constantAt e (further (size op n w) a) op n w
+
+-- only the target of JR looks at that address, and JR has two bytes
 pub next-is : (e : Edition) (a op n w : ℕ) → op < 256 → n < 256
     → constantIn (further (size op n w) a) (held e op n w) ≡ constantIn (further 2 a) (held e op n w)
 unfolding grid shapes spellings ascii
-next-is Old a = each-opcode (λ op n w. constantIn (further (size op n w) a) (held Old op n w)) (λ op n w. constantIn (further 2 a) (held Old op n w)) [] (λ n w. refl) (λ w. refl)
-next-is New a = each-opcode (λ op n w. constantIn (further (size op n w) a) (held New op n w)) (λ op n w. constantIn (further 2 a) (held New op n w)) [] (λ n w. refl) (λ w. refl)
+next-is Old a = each-opcode (constantBehind Old a) (constantAt Old (further 2 a)) [] (λ n w. refl) (λ w. refl)
+next-is New a = each-opcode (constantBehind New a) (constantAt New (further 2 a)) [] (λ n w. refl) (λ w. refl)
 
 -- every constant is in its range
 abbrev pub FitsIn : Shown → Type 0
