@@ -18,7 +18,8 @@ use Rattle.digits.proofs.Digits.{Below, below-rest, digits-below, worth-digits}
 use Rattle.digits.proofs.Decimal.{digitBy, decimal-read}
 use Rattle.insn.proofs.Entries.{agree}
 use Rattle.listing.specs.Spelling.{Kind, n8, n16, atN16, atHigh, e8, spPlusE8, target, u3, vec, hex, signedIf, signedText, constantText}
-use Rattle.spellings.proofs.Outline.{ends, inner, isConstant}
+use Rattle.spellings.specs.Outline.{begins, ends}
+use Rattle.spellings.specs.Exact.{none, isConstant}
 
 -- a hexadecimal digit from its glyph
 abbrev nibbleIf : Bool → ℕ → ℕ
@@ -36,14 +37,14 @@ unfolding glyphOf ascii
 glyph-nibble d h = rw (mod-eq-of-lt h) (agree (λ k. nibble (getD glyphs k 0)) (λ k. k) 16 refl d h)
 
 glyph-inner : (d : ℕ) → ends (glyphOf d) ≡ false
-unfolding glyphOf ascii
+unfolding glyphOf ascii ends
 glyph-inner d = agree (λ k. ends (getD glyphs k 0)) (λ k. false) 16 refl (d % 16) (mod-lt d (lit< tt))
 
 nibbles : (digits : List ℕ) → Below 16 digits → map nibble (map glyphOf digits) ≡ digits
 nibbles [] p = refl
 nibbles (d ∷ rest) p = rw (glyph-nibble d (p .at 0), nibbles rest (below-rest p))
 
-glyphs-inner : (digits : List ℕ) → inner (map glyphOf digits) ≡ true
+glyphs-inner : (digits : List ℕ) → none ends (map glyphOf digits) ≡ true
 glyphs-inner [] = refl
 glyphs-inner (d ∷ rest) = rw (glyph-inner d, glyphs-inner rest)
 
@@ -56,7 +57,7 @@ unfolding hex hexText ascii
 hex-read k n = rw (nibbles (digitsOf 16 k n) (digits-below (lit< tt) k n)) (worth-digits 16 (lit< tt) k n)
 
 hex-constant : (k n : ℕ) → isConstant (hex k n) ≡ true
-unfolding hex hexText ascii
+unfolding hex hexText ascii begins ends
 hex-constant k n = glyphs-inner (digitsOf 16 k n)
 
 hex-small : (n : ℕ) → n < 256 → hexRead (hex 2 n) ≡ n
@@ -90,7 +91,7 @@ unfolding signedText
 signed-read e h = signed-if (ltb e 0x80) e refl h
 
 signed-constant-if : (t : Bool) (e : ℕ) → isConstant (signedIf t e) ≡ true
-unfolding signedIf hex hexText ascii
+unfolding signedIf hex hexText ascii begins ends
 signed-constant-if true e = glyphs-inner (digitsOf 16 2 e)
 signed-constant-if false e = glyphs-inner (digitsOf 16 2 (256 - e))
 
@@ -115,7 +116,7 @@ target-read e next h small =
 
 -- a bit's number
 decimal-constant : (k : ℕ) → k < 8 → isConstant (decimalText k) ≡ true
-unfolding decimalText digitsOf widthOf widthIf glyphOf ascii
+unfolding decimalText digitsOf widthOf widthIf glyphOf ascii begins ends
 decimal-constant k h = agree (λ k. isConstant (decimalText k)) (λ k. true) 8 refl k h
 
 -- the numbers that a constant of each kind can have

@@ -1,7 +1,7 @@
 -- A line's address and spelling determine its bytes, over both editions: they are read back from it. So two parts with the same first
 -- address and the same spellings are the same bytes.
 -- Assumes nothing.
-use Prim.Native.Nat.{ℕ, zero, suc, _+_, _≤_, _<_}
+use Prim.Native.Nat.{ℕ, zero, suc, _≤_, _<_}
 use mathlib.Core.Bool.{Bool, true, false, _&&_, not, true≢false}
 use mathlib.Core.List.{List, [], _∷_, _++_}
 use mathlib.Core.Path.{_≡_, refl, sym, _∙_, ap}
@@ -12,77 +12,81 @@ use lib.Dec.{eqb, ltb}
 use lib.ListN.{length, getD, take, drop, take-append-drop, length-drop}
 use Rattle.arith.specs.Words.{wordOf, further}
 use Rattle.arith.proofs.Laws.{further-below, low-back, high-back, word-below}
-use Rattle.digits.specs.Ascii.{ascii}
 use Rattle.digits.specs.Digits.{byteIn}
 use Rattle.digits.proofs.Digits.{below-rest}
 use Rattle.digits.proofs.Places.{ByteList, bytesAt, part-bytes}
 use Rattle.insn.specs.Grid.{decodeOf}
 use Rattle.insn.specs.Shapes.{isUndefined}
-use Rattle.listing.specs.Spelling.{n8, Shown, Named, Of, changedIf, spellingIn, dataOf, constantText, spellingText}
+use Rattle.listing.specs.Spelling.{Kind, n8, n16, atN16, atHigh, e8, spPlusE8, target, u3, vec, Shown, Named, Of, spellingIn, dataOf, constantText, spellingText}
 use Rattle.listing.specs.Forms.{textIf, numberIf}
 use Rattle.listing.specs.Lines.{Line, insnIn, spelledIn, sizeIn, isData, lineIf, lineOf, linesFrom, linesOf}
 use Rattle.listing.specs.declared.Edition.{Edition}
 use Rattle.listing.proofs.Addresses.{stands}
 use Rattle.listing.proofs.Order.{or-left, or-right, whole, size-some, size-few, counted, line-first}
 use Rattle.spellings.specs.Determined.{LineIn, LineDetermined, spellingsOf, PartDetermined}
-use Rattle.spellings.proofs.Outline.{Split, splits, splitInto, Shows, constantIn, outlineOf, spelling-splits}
-use Rattle.spellings.proofs.Constants.{numberIn, constant-is, number-back}
-use Rattle.spellings.proofs.Rows.{rowOf, kindOf, kindAt, encoded, held, size, insnBytes, FitsIn, row-data, next-is, recovered}
+use Rattle.spellings.specs.Outline.{constantIn, outlineIn}
+use Rattle.spellings.specs.Rows.{rowBy, slotOf, slotAt}
+use Rattle.spellings.specs.Bytes.{bytesOf}
+use Rattle.spellings.specs.declared.Slot.{Slot}
+use Rattle.spellings.specs.declared.Slot.the-variants.{Bare, N8, N16, High, E8, Target, U3, Vec}
+use Rattle.spellings.proofs.Constants.{numberIn, number-back}
+use Rattle.spellings.proofs.Recovered.{heldSlot, heldNumber, heldText, FitsIn, held, size, insnBytes, next-is, recovered, recovered-data}
 
--- an operand from its kind and the text of its constant
-abbrev operandBack : ℕ → Shown → List ℕ → Shown
-operandBack next (Named t) c = Named t
-operandBack next (Of k n) c = Of k (numberIn next k c)
+-- the number of a constant from its text, by what it may be: only its kind's place in the line differs within a slot
+abbrev slotNumber : ℕ → Slot → List ℕ → ℕ
+slotNumber next Bare t = 0
+slotNumber next N8 t = numberIn next n8 t
+slotNumber next N16 t = numberIn next n16 t
+slotNumber next High t = numberIn next atHigh t
+slotNumber next E8 t = numberIn next e8 t
+slotNumber next Target t = numberIn next target t
+slotNumber next U3 t = numberIn next u3 t
+slotNumber next Vec t = numberIn next vec t
 
--- the bytes of a line from its address, its outline and its constant, and from its address and its spelling
-abbrev bytesBack : ℕ → Split → List ℕ
-bytesBack a s = encoded (rowOf (s .outline)) (operandBack (further 2 a) (kindAt (rowOf (s .outline))) (s .constant))
+-- the bytes of a line from its address, its row and its constant, and from its address and its spelling
+abbrev bytesBack : ℕ → ℕ → List ℕ → List ℕ
+bytesBack a row t = bytesOf row (slotAt row) (slotNumber (further 2 a) (slotAt row) t)
 
 unfoldable pub readBack : ℕ → List ℕ → List ℕ
-readBack a spelling = bytesBack a (splits false spelling)
+readBack a spelling = bytesBack a (rowBy (outlineIn spelling)) (constantIn spelling)
 
-shows : (next : ℕ) (x : Shown) → FitsIn x → Shows next x
-shows next (Named t) h = tt
-shows next (Of k n) h = constant-is next k n h
+slot-number : (next : ℕ) (k : Kind) (t : List ℕ) → slotNumber next (slotOf k) t ≡ numberIn next k t
+unfolding slotOf
+slot-number next n8 t = refl
+slot-number next n16 t = refl
+slot-number next atN16 t = refl
+slot-number next atHigh t = refl
+slot-number next e8 t = refl
+slot-number next spPlusE8 t = refl
+slot-number next target t = refl
+slot-number next u3 t = refl
+slot-number next vec t = refl
 
-operand-back : (row next : ℕ) (x : Shown) → next < 65536 → FitsIn x → encoded row (operandBack next (kindOf x) (constantIn next x)) ≡ encoded row x
-unfolding encoded
-operand-back row next (Named t) small h = refl
-operand-back row next (Of k n) small h = rw (number-back next k n small h)
+held-back : (next : ℕ) (x : Shown) → next < 65536 → FitsIn x → slotNumber next (heldSlot x) (heldText next x) ≡ heldNumber x
+held-back next (Named t) small h = refl
+held-back next (Of k n) small h = slot-number next k (constantText next k n) ∙ number-back next k n small h
 
 -- an instruction
 module _ (e : Edition) (a op n w : ℕ) (h : op < 256) (hn : n < 256) (hw : w < 65536) (d : isUndefined (decodeOf op n w) ≡ false) where
-  insn-back : readBack a (spellingText (further (size op n w) a) (spellingIn e op n w)) ≡ insnBytes (size op n w) op n w
+  pub insn-back : readBack a (spellingText (further (size op n w) a) (spellingIn e op n w)) ≡ insnBytes (size op n w) op n w
   unfolding readBack
   insn-back =
-      let r = recovered e op n w h hn hw d in
-      let next = further (size op n w) a in
+      let r = recovered e (further (size op n w) a) op n w h hn hw d in
       rw (
-        spelling-splits next (spellingIn e op n w) (r .plain) (r .single) (shows next (held e op n w) (r .fits)),
-        r .found,
-        r .kind,
+        r .text,
+        r .row,
+        r .slot,
         next-is e a op n w h hn,
+        held-back (further 2 a) (held e op n w) (further-below 2 a) (r .fits),
       )
-      (operand-back _ (further 2 a) (held e op n w) (further-below 2 a) (r .fits) ∙ r .bytes)
+      (r .bytes)
 
 -- a byte of data
-data-splits : (next b : ℕ) → b < 256 → splits false (spellingText next (dataOf b)) ≡ splitInto (outlineOf (dataOf b)) (constantIn next (Of n8 b))
-unfolding ascii
-data-splits next b h = spelling-splits next (dataOf b) refl refl (shows next (Of n8 b) h)
-
-data-kind : kindAt 512 ≡ Of n8 0
-unfolding kindAt changedIf
-data-kind = refl
-
-data-encoded : (b : ℕ) → encoded 512 (Of n8 b) ≡ b ∷ []
-unfolding encoded textIf
-data-encoded b = refl
-
-data-back : (a next b : ℕ) → b < 256 → readBack a (spellingText next (dataOf b)) ≡ b ∷ []
+pub data-back : (a next b : ℕ) → b < 256 → readBack a (spellingText next (dataOf b)) ≡ b ∷ []
 unfolding readBack constantText
 data-back a next b h =
-    rw (data-splits next b h, row-data b, data-kind)
-    (operand-back 512 (further 2 a) (Of n8 b) (further-below 2 a) h ∙ data-encoded b)
+    let r = recovered-data next b h in
+    rw (r .text, r .row, r .slot, number-back (further 2 a) n8 b (further-below 2 a) h) (r .bytes)
 
 -- the bytes that a line has are the first of those that it begins with
 module _ (bytes : List ℕ) (some : 0 < length bytes) where
@@ -163,7 +167,7 @@ pub line-in : (e : Edition) (first : ℕ) (part : List ℕ) → ByteList part �
 unfolding linesOf
 line-in e first part p = lines-in e first 0 part p
 
-below-drop : (k : ℕ) (bytes : List ℕ) → ByteList bytes → ByteList (drop k bytes)
+pub below-drop : (k : ℕ) (bytes : List ℕ) → ByteList bytes → ByteList (drop k bytes)
 below-drop zero bytes p = p
 below-drop (suc k) [] p = p
 below-drop (suc k) (b ∷ bytes) p = below-drop k bytes (below-rest p)

@@ -1,189 +1,198 @@
--- A spelling falls apart from the left in one way: a constant begins with $, a minus or a digit and ends before a comma or a bracket, and
--- what is not in it is the spelling's outline.
+-- How a line falls apart: what stands before a constant has no character that begins one, and what stands behind it begins with one that
+-- ends it. So a spelling with a text in the place of its constant falls apart into what stands around it and that text, and has the
+-- spelling's outline.
 -- Assumes nothing.
-use Prim.Native.Nat.{ℕ}
+use Prim.Native.Nat.{ℕ, _<_}
 use mathlib.Core.Bool.{Bool, true, false, not, _||_, _&&_, and-eq-true-iff, true≢false}
-use mathlib.Core.List.{List, [], _∷_, _++_, append-assoc, append-nil}
-use mathlib.Core.Path.{_≡_, refl, sym, ap}
-use borrow.Author.Tests.{not-true}
-use lib.Dec.{eqb, leb}
-use Rattle.digits.specs.Ascii.{ascii}
-use Rattle.listing.specs.Spelling.{Kind, n8, n16, atN16, atHigh, e8, spPlusE8, target, u3, vec, Shown, Named, Of, Spelling, bracketed, constantText, around, shownText, commaText, operandsText, spellingBy, spellingText}
-
--- the characters that begin a constant, and those that end one
-abbrev pub starts : ℕ → Bool
-starts c = eqb c 36 || (eqb c 45 || (leb 48 c && leb c 57))
-
-abbrev pub ends : ℕ → Bool
-ends c = eqb c 44 || eqb c 93
-
--- an outline, in which a mark stands for the constant, and the constant
-pub record Split : Type 0 where
-  pub outline : List ℕ
-  pub constant : List ℕ
-
-abbrev pub mark : ℕ
-mark = 36
-
-abbrev splitIf : Bool → Split → Split → Split
-splitIf true s other = s
-splitIf false s other = other
-
--- more of the outline, and more of the constant, before a split
-abbrev joinSplit : List ℕ → List ℕ → Split → Split
-joinSplit o c s = record { outline = o ++ s .outline; constant = c ++ s .constant }
-
--- a text from the left, inside a constant or not
-unfoldable pub splits : Bool → List ℕ → Split
-splits inside [] = record { outline = []; constant = [] }
-splits false (c ∷ cs) = splitIf (starts c) (joinSplit (mark ∷ []) (c ∷ []) (splits true cs)) (joinSplit (c ∷ []) [] (splits false cs))
-splits true (c ∷ cs) = splitIf (ends c) (joinSplit (c ∷ []) [] (splits false cs)) (joinSplit [] (c ∷ []) (splits true cs))
-
--- a text with no constant in it, the inside of one, and a whole one
-abbrev pub free : List ℕ → Bool
-free [] = true
-free (c ∷ cs) = not (starts c) && free cs
-
-abbrev pub inner : List ℕ → Bool
-inner [] = true
-inner (c ∷ cs) = not (ends c) && inner cs
-
-abbrev pub isConstant : List ℕ → Bool
-isConstant [] = false
-isConstant (c ∷ cs) = starts c && inner cs
+use mathlib.Core.List.{List, [], _∷_, _++_, append-nil}
+use mathlib.Core.Path.{_≡_, refl, sym, _∙_, ap}
+use native.Mathlib.Omega.{arith}
+use borrow.Author.Tests.{eqb-true, not-true}
+use lib.Dec.{eqb}
+use lib.ListN.{length}
+use Rattle.listing.specs.Forms.{textIf}
+use Rattle.spellings.specs.Outline.{begins, ends, upTo, onFrom, beforeIn, constantIn, behindIn, mark, marked, outlineIn}
+use Rattle.spellings.specs.Exact.{none, isConstant}
 
 pub both : (t u : Bool) → (t && u) ≡ true → (t ≡ true) × (u ≡ true)
 both t u = and-eq-true-iff t u .0
 
-outside : (xs rest : List ℕ) → free xs ≡ true → splits false (xs ++ rest) ≡ joinSplit xs [] (splits false rest)
-unfolding splits
-outside [] rest h = refl
-outside (c ∷ cs) rest h =
-    let each = both (not (starts c)) (free cs) h in
-    rw (not-true (starts c) (each .0), outside cs rest (each .1)) refl
+-- where no character of a text passes, a search goes on behind it
+module _ (passes : ℕ → Bool) where
+  up-past : (xs rest : List ℕ) → none passes xs ≡ true → upTo passes (xs ++ rest) ≡ xs ++ upTo passes rest
+  unfolding upTo textIf
+  up-past [] rest h = refl
+  up-past (c ∷ cs) rest h =
+      let each = both (not (passes c)) (none passes cs) h in
+      rw (not-true (passes c) (each .0), up-past cs rest (each .1)) refl
 
-inside : (xs rest : List ℕ) → inner xs ≡ true → splits true (xs ++ rest) ≡ joinSplit [] xs (splits true rest)
-unfolding splits
-inside [] rest h = refl
-inside (c ∷ cs) rest h =
-    let each = both (not (ends c)) (inner cs) h in
-    rw (not-true (ends c) (each .0), inside cs rest (each .1)) refl
+  on-past : (xs rest : List ℕ) → none passes xs ≡ true → onFrom passes (xs ++ rest) ≡ onFrom passes rest
+  unfolding onFrom textIf
+  on-past [] rest h = refl
+  on-past (c ∷ cs) rest h =
+      let each = both (not (passes c)) (none passes cs) h in
+      rw (not-true (passes c) (each .0)) (on-past cs rest (each .1))
 
-constant : (t rest : List ℕ) → isConstant t ≡ true → splits false (t ++ rest) ≡ joinSplit (mark ∷ []) t (splits true rest)
-unfolding splits
-constant [] rest h = absurd (true≢false (sym h))
-constant (c ∷ cs) rest h =
-    let each = both (starts c) (inner cs) h in
-    rw (each .0, inside cs rest (each .1)) refl
+  -- a text that is empty or begins with a character that passes
+  abbrev pub stops : List ℕ → Bool
+  stops [] = true
+  stops (c ∷ cs) = passes c
 
--- what follows an operand is the same inside a constant and outside
-abbrev Ended : List ℕ → Type 0
-Ended rest = splits true rest ≡ splits false rest
+  up-stops : (xs : List ℕ) → stops xs ≡ true → upTo passes xs ≡ []
+  unfolding upTo textIf
+  up-stops [] h = refl
+  up-stops (c ∷ cs) h = rw h
 
-module _ (t rest : List ℕ) (is : isConstant t ≡ true) where
-  bare : Ended rest → splits false (t ++ rest) ≡ joinSplit (mark ∷ []) t (splits false rest)
-  bare h = rw (constant t rest is, h)
+  on-stops : (xs : List ℕ) → stops xs ≡ true → onFrom passes xs ≡ xs
+  unfolding onFrom textIf
+  on-stops [] h = refl
+  on-stops (c ∷ cs) h = rw h
 
-  in-brackets : splits false (bracketed t ++ rest) ≡ joinSplit (bracketed (mark ∷ [])) t (splits false rest)
-  unfolding bracketed ascii splits
-  in-brackets = rw (append-assoc t (93 ∷ []) rest, constant t (93 ∷ rest) is)
+  -- what is found is such a text, and what stands before it has no such character
+  found-if : (t : Bool) (c : ℕ) (cs : List ℕ) → passes c ≡ t → stops (onFrom passes cs) ≡ true → stops (textIf t (c ∷ cs) (onFrom passes cs)) ≡ true
+  unfolding textIf
+  found-if true c cs e rest = e
+  found-if false c cs e rest = rest
 
-  behind-sp : Ended rest → splits false (ascii "SP+" ++ t ++ rest) ≡ joinSplit (ascii "SP+" ++ (mark ∷ [])) t (splits false rest)
-  unfolding ascii splits
-  behind-sp h = rw (constant t rest is, h)
+  pub on-found : (xs : List ℕ) → stops (onFrom passes xs) ≡ true
+  unfolding onFrom
+  on-found [] = refl
+  on-found (c ∷ cs) = found-if (passes c) c cs refl (on-found cs)
 
-  -- a constant with what stands around it
-  surrounded : (k : Kind) → Ended rest → splits false (around k t ++ rest) ≡ joinSplit (around k (mark ∷ [])) t (splits false rest)
-  unfolding around
-  surrounded n8 h = bare h
-  surrounded n16 h = bare h
-  surrounded atN16 h = in-brackets
-  surrounded atHigh h = in-brackets
-  surrounded e8 h = bare h
-  surrounded spPlusE8 h = behind-sp h
-  surrounded target h = bare h
-  surrounded u3 h = bare h
-  surrounded vec h = bare h
+  none-if : (t : Bool) (c : ℕ) (cs : List ℕ) → passes c ≡ t → none passes cs ≡ true → none passes (textIf t [] (c ∷ cs)) ≡ true
+  unfolding textIf
+  none-if true c cs e rest = refl
+  none-if false c cs e rest = rw e rest
 
--- the outline of an operand and of a spelling, and the one constant of operands
-abbrev pub shownOutline : Shown → List ℕ
-shownOutline (Named t) = ascii t
-shownOutline (Of k n) = around k (mark ∷ [])
+  up-none : (xs : List ℕ) → none passes (upTo passes xs) ≡ true
+  unfolding upTo
+  up-none [] = refl
+  up-none (c ∷ cs) = none-if (passes c) c (upTo passes cs) refl (up-none cs)
 
-abbrev pub outlineOf : Spelling → List ℕ
-outlineOf s = spellingBy shownOutline s
+  -- the two parts are the text
+  rejoin-if : (t : Bool) (c : ℕ) (cs front back : List ℕ) → front ++ back ≡ cs → textIf t [] (c ∷ front) ++ textIf t (c ∷ cs) back ≡ c ∷ cs
+  unfolding textIf
+  rejoin-if true c cs front back e = refl
+  rejoin-if false c cs front back e = ap (λ (l : List ℕ). c ∷ l) e
 
-abbrev pub constantOf : List Shown → Shown
-constantOf [] = Named ""
-constantOf (Named t ∷ xs) = constantOf xs
-constantOf (Of k n ∷ xs) = Of k n
+  pub rejoin : (xs : List ℕ) → upTo passes xs ++ onFrom passes xs ≡ xs
+  unfolding upTo onFrom
+  rejoin [] = refl
+  rejoin (c ∷ cs) = rejoin-if (passes c) c cs (upTo passes cs) (onFrom passes cs) (rejoin cs)
 
-abbrev pub constantIn : ℕ → Shown → List ℕ
-constantIn next (Named t) = []
-constantIn next (Of k n) = constantText next k n
+-- a text without a constant, and what stands behind a constant
+abbrev pub free : List ℕ → Bool
+free xs = none begins xs
 
--- operands of which one at most is a constant, and no name looks like one
-abbrev allNames : List Shown → Bool
-allNames [] = true
-allNames (Named t ∷ xs) = free (ascii t) && allNames xs
-allNames (Of k n ∷ xs) = false
+abbrev pub ended : List ℕ → Bool
+ended xs = stops ends xs
 
-abbrev pub oneConstant : List Shown → Bool
-oneConstant [] = true
-oneConstant (Named t ∷ xs) = free (ascii t) && oneConstant xs
-oneConstant (Of k n ∷ xs) = allNames xs
+-- the parts of a line
+pub record Apart (line before constant behind : List ℕ) : Type 0 where
+  pub before-is : beforeIn line ≡ before
+  pub constant-is : constantIn line ≡ constant
+  pub behind-is : behindIn line ≡ behind
 
-abbrev pub splitInto : List ℕ → List ℕ → Split
-splitInto o c = record { outline = o; constant = c }
+starts : (t rest : List ℕ) → isConstant t ≡ true → stops begins (t ++ rest) ≡ true
+starts [] rest h = absurd (true≢false (sym h))
+starts (c ∷ cs) rest h = both (begins c) (none ends (c ∷ cs)) h .0
 
-module _ (next : ℕ) where
-  abbrev text : Shown → List ℕ
-  text = shownText next
+unended : (t : List ℕ) → isConstant t ≡ true → none ends t ≡ true
+unended [] h = refl
+unended (c ∷ cs) h = both (begins c) (none ends (c ∷ cs)) h .1
 
-  commas-end : (xs : List Shown) → Ended (commaText text xs)
-  unfolding splits commaText ascii
-  commas-end [] = refl
-  commas-end (x ∷ xs) = refl
+module _ (pre t post : List ℕ) (f : free pre ≡ true) (is : isConstant t ≡ true) (e : ended post ≡ true) where
+  from-constant : onFrom begins (pre ++ (t ++ post)) ≡ t ++ post
+  from-constant = on-past begins pre (t ++ post) f ∙ on-stops begins (t ++ post) (starts t post is)
 
-  names : (xs : List Shown) → allNames xs ≡ true → splits false (commaText text xs) ≡ splitInto (commaText shownOutline xs) []
-  unfolding splits commaText shownText ascii
-  names [] h = refl
-  names (Named t ∷ xs) h =
-      let each = both (free (ascii t)) (allNames xs) h in
-      rw (outside (ascii t) (commaText text xs) (each .0), names xs (each .1)) refl
-  names (Of k n ∷ xs) h = absurd (true≢false (sym h))
+  pub around-apart : Apart (pre ++ (t ++ post)) pre t post
+  unfolding beforeIn constantIn behindIn
+  around-apart =
+      record {
+        before-is = rw (up-past begins pre (t ++ post) f, up-stops begins (t ++ post) (starts t post is), append-nil);
+        constant-is = rw (from-constant, up-past ends t post (unended t is), up-stops ends post e, append-nil);
+        behind-is = rw from-constant (on-past ends t post (unended t is) ∙ on-stops ends post e);
+      }
 
-  -- a constant that is one
-  abbrev pub Shows : Shown → Type 0
-  Shows (Named t) = Unit {0}
-  Shows (Of k n) = isConstant (constantText next k n) ≡ true
+pub free-apart : (pre : List ℕ) → free pre ≡ true → Apart pre pre [] []
+unfolding beforeIn constantIn behindIn upTo onFrom
+free-apart pre f =
+    let up = up-past begins pre [] f in
+    let on = on-past begins pre [] f in
+    record {
+      before-is = rw append-nil at up;
+      constant-is = rw (rw append-nil at on);
+      behind-is = rw (rw append-nil at on);
+    }
 
-  -- an operand and those behind it, the latter by what is known of them
-  leads : (x : Shown) (xs : List Shown) → oneConstant (x ∷ xs) ≡ true → Shows (constantOf (x ∷ xs))
-      → (oneConstant xs ≡ true → Shows (constantOf xs) → splits false (commaText text xs) ≡ splitInto (commaText shownOutline xs) (constantIn next (constantOf xs)))
-      → splits false (text x ++ commaText text xs) ≡ splitInto (shownOutline x ++ commaText shownOutline xs) (constantIn next (constantOf (x ∷ xs)))
-  unfolding shownText
-  leads (Named t) xs h is known =
-      let each = both (free (ascii t)) (oneConstant xs) h in
-      rw (outside (ascii t) (commaText text xs) (each .0), known (each .1) is)
-  leads (Of k n) xs h is known =
-      rw (surrounded (constantText next k n) (commaText text xs) is k (commas-end xs), names xs h, append-nil)
+-- the three parts of a line are the line
+pub parts-join : (line : List ℕ) → beforeIn line ++ (constantIn line ++ behindIn line) ≡ line
+unfolding beforeIn constantIn behindIn
+parts-join line = rw (rejoin ends (onFrom begins line)) (rejoin begins line)
 
-  commas : (xs : List Shown) → oneConstant xs ≡ true → Shows (constantOf xs)
-      → splits false (commaText text xs) ≡ splitInto (commaText shownOutline xs) (constantIn next (constantOf xs))
-  unfolding splits commaText ascii
-  commas [] h is = refl
-  commas (x ∷ xs) h is = ap (joinSplit (44 ∷ []) []) (leads x xs h is (commas xs))
+-- no character both begins a constant and ends one
+ends-no-begin : (c : ℕ) (t u : Bool) → eqb c 44 ≡ t → eqb c 93 ≡ u → (t || u) ≡ true → begins c ≡ false
+unfolding begins
+ends-no-begin c true u p q h = rw (eqb-true c 44 p)
+ends-no-begin c false true p q h = rw (eqb-true c 93 q)
+ends-no-begin c false false p q h = absurd (true≢false (sym h))
 
-  operands : (xs : List Shown) → oneConstant xs ≡ true → Shows (constantOf xs)
-      → splits false (operandsText text xs) ≡ splitInto (operandsText shownOutline xs) (constantIn next (constantOf xs))
-  unfolding splits operandsText
-  operands [] h is = refl
-  operands (x ∷ xs) h is = ap (joinSplit (32 ∷ []) []) (leads x xs h is (commas xs))
+begin-no-end : (c : ℕ) → begins c ≡ true → (t : Bool) → ends c ≡ t → t ≡ false
+unfolding ends
+begin-no-end c b true e = sym b ∙ ends-no-begin c (eqb c 44) (eqb c 93) refl refl e
+begin-no-end c b false e = refl
 
-  -- a spelling falls apart into its outline and its constant
-  pub spelling-splits : (s : Spelling) → free (ascii (s .name)) ≡ true → oneConstant (s .operands) ≡ true → Shows (constantOf (s .operands))
-      → splits false (spellingText next s) ≡ splitInto (outlineOf s) (constantIn next (constantOf (s .operands)))
-  unfolding spellingText spellingBy
-  spelling-splits s plain one is =
-      rw (outside (ascii (s .name)) (operandsText text (s .operands)) plain, operands (s .operands) one is)
+-- a line without a constant, and one with a constant
+pub data Parts (line : List ℕ) : Type 0 where
+  Without : free line ≡ true → Parts line
+  With : free (beforeIn line) ≡ true → isConstant (constantIn line) ≡ true → ended (behindIn line) ≡ true → Parts line
+
+like-constant : (c : ℕ) (cs : List ℕ) → begins c ≡ true → isConstant (upTo ends (c ∷ cs)) ≡ true
+unfolding upTo textIf
+like-constant c cs b =
+    let e = begin-no-end c b (ends c) refl in
+    rw (e, b, e) (up-none ends cs)
+
+pub parts : (line : List ℕ) → Parts line
+unfolding beforeIn constantIn behindIn
+parts line = go (onFrom begins line) refl
+  where
+    go : (rest : List ℕ) → onFrom begins line ≡ rest → Parts line
+    go [] e =
+        let whole : upTo begins line ≡ line = sym (append-nil (upTo begins line)) ∙ ap (λ (l : List ℕ). upTo begins line ++ l) (sym e) ∙ rejoin begins line in
+        Without (rw whole at (up-none begins line))
+    go (c ∷ cs) e =
+        let found : begins c ≡ true = rw e at (on-found begins line) in
+        With (up-none begins line) (rw e (like-constant c cs found)) (on-found ends (onFrom begins line))
+
+-- the outline of a line falls apart as the line does, with the mark in the place of the constant
+free-outline : (line : List ℕ) → free line ≡ true → outlineIn line ≡ line
+unfolding outlineIn marked
+free-outline line f =
+    let a = free-apart line f in
+    rw (a .before-is, a .constant-is, a .behind-is, append-nil)
+
+pub mark-of : (t : List ℕ) → isConstant t ≡ true → marked t ≡ mark ∷ []
+unfolding marked
+mark-of [] h = absurd (true≢false (sym h))
+mark-of (c ∷ cs) h = refl
+
+pub constant-length : (t : List ℕ) → isConstant t ≡ true → 0 < length t
+constant-length [] h = absurd (true≢false (sym h))
+constant-length (c ∷ cs) h = omega arith
+
+pub mark-is-constant : isConstant (mark ∷ []) ≡ true
+unfolding begins ends
+mark-is-constant = refl
+
+pub no-mark : (t : List ℕ) → marked t ≡ [] → t ≡ []
+unfolding marked
+no-mark [] h = refl
+no-mark (c ∷ cs) h = let z : _≡_ {A = ℕ} 0 1 = cc in absurd (omega arith)
+
+pub outline-apart : (line : List ℕ) → Parts line → Apart (outlineIn line) (beforeIn line) (marked (constantIn line)) (behindIn line)
+unfolding marked
+outline-apart line (Without f) =
+    let a = free-apart line f in
+    rw (free-outline line f, a .constant-is) (record { before-is = refl; constant-is = a .constant-is; behind-is = refl })
+outline-apart line (With f is e) = unfold outlineIn in rw (mark-of (constantIn line) is) (around-apart (beforeIn line) (mark ∷ []) (behindIn line) f mark-is-constant e)
