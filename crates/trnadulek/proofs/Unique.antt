@@ -14,6 +14,7 @@ use Rattle.trnadulek.proofs.trnadulek_load_head.Reads as load-head
 use Rattle.trnadulek.proofs.trnadulek_save_head.Reads as save-head
 use Rattle.trnadulek.proofs.trnadulek_open_image.Reads as open-image
 use Rattle.trnadulek.proofs.trnadulek_save_image.Reads as save-image
+use Rattle.trnadulek.proofs.trnadulek_assemble.Reads as assemble
 use Rattle.trnadulek.proofs.trnadulek_list.Reads as list
 use Rattle.trnadulek.proofs.trnadulek_length.Reads as length
 use Rattle.trnadulek.proofs.trnadulek_untaken_cycles.Reads as untaken-cycles
@@ -68,6 +69,14 @@ trnadulek-list-unique _ _ _ _ _ _ p q =
     let out = same (p .leaves-out) (q .leaves-out) in
     let length = same (p .leaves-length) (q .leaves-length) in
     (same (p .answers) (q .answers), λ i. (out i, length i))
+
+-- an assembly: the answer, the output, the line at fault and the length, which stand after the text and its address
+pub trnadulek-assemble-unique : OneOutcome {S = List ℕ × (ℕ × ℕ)} assemble.Post (λ κs e. (now (e .1 .1 .0), (now (e .1 .1 .1 .0), now (e .1 .1 .1 .1 .0))))
+trnadulek-assemble-unique _ _ _ _ _ _ p q =
+    let out = same (p .leaves-out) (q .leaves-out) in
+    let line = same (p .leaves-line) (q .leaves-line) in
+    let length = same (p .leaves-length) (q .leaves-length) in
+    (same (p .answers) (q .answers), λ i. (out i, (line i, length i)))
 
 -- a question: the answer
 pub trnadulek-length-unique : OneAnswer length.Post

@@ -13,6 +13,6 @@ pub sizeless : (x : ℕ) → Passed 0 6 x → sizeOf x ≡ 0
 unfolding sizes sizeOf
 sizeless x p = List·getD-eq-default sizes 0 (past 0 6 x (omega arith) p)
 
-pub wordless : (x : ℕ) → Passed 0 12 x → wordingOf x ≡ []
+pub wordless : (x : ℕ) → Passed 0 15 x → wordingOf x ≡ []
 unfolding wordings wordingOf
-wordless x p = List·getD-eq-default wordings [] (past 0 12 x (omega arith) p)
+wordless x p = List·getD-eq-default wordings [] (past 0 15 x (omega arith) p)

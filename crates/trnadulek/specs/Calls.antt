@@ -1,11 +1,12 @@
--- A step and a run of the state in a block, a run of an image where it lies, and a listing: the answer, and what is left in everything
--- that was lent. Document 01, "Refusal numbers" and "Runs and counts"; document 02, M-101 and M-102.
+-- A step and a run of the state in a block, a run of an image where it lies, a listing and an assembly: the answer, and what is left in
+-- everything that was lent. Document 01, "Refusal numbers" and "Runs and counts"; document 02, M-101 to M-103.
 -- Assumes nothing.
 use Prim.Native.Nat.{ℕ}
 use mathlib.Core.Bool.{Bool, true, false}
 use mathlib.Core.List.{List}
 use mathlib.Core.Path.{_≡_}
 use Rattle.arith.specs.Refusals.{unlessRefused}
+use Rattle.assembler.specs.Text as assembler
 use Rattle.listing.specs.Answer.{Answer}
 use Rattle.machine.specs.Memory.{Memory}
 use Rattle.machine.specs.Answers.{With}
@@ -111,3 +112,10 @@ pub record ListGives (a : Answer) (code : ℕ) (out : List ℕ) (length : ℕ) :
   pub answers : code ≡ a .listed .code
   pub leaves-out : out ≡ a .out
   pub leaves-length : length ≡ a .listed .length
+
+-- an assembly: its number, the output, the line at fault and the length written
+pub record AssembleGives (a : assembler.Answer) (code : ℕ) (out : List ℕ) (line : ℕ) (length : ℕ) : Type 0 where
+  pub answers : code ≡ a .assembled .code
+  pub leaves-out : out ≡ a .out
+  pub leaves-line : line ≡ a .assembled .line
+  pub leaves-length : length ≡ a .assembled .length

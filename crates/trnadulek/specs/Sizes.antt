@@ -17,6 +17,6 @@ sizes = headSize ∷ blockSize ∷ memorySize ∷ imageSize ∷ largestBudget �
 unfoldable pub sizeOf : ℕ → ℕ
 sizeOf which = getD sizes which 0
 
--- the version of this library, 0.5.0: 10,000 times the first number, 100 times the second, and the third
+-- the version of this library, 0.6.0: 10,000 times the first number, 100 times the second, and the third
 abbrev pub libraryVersion : ℕ
-libraryVersion = 500
+libraryVersion = 600

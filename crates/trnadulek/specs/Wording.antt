@@ -24,6 +24,9 @@ wordings =
     ∷ ascii "IME code above 2, or mode code above 3"
     ∷ ascii "output too short"
     ∷ ascii "edition number is neither 1 nor 2"
+    ∷ ascii "a line of no such form"
+    ∷ ascii "nesting deeper than 16"
+    ∷ ascii "number or value out of range"
     ∷ []
 
 -- a number that the table does not have has no wording

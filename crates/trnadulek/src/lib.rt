@@ -8,11 +8,12 @@ use machine::LARGEST_BUDGET;
 use machine::run;
 use saved::block;
 ghost use mathlib.Core.Path.{_≡_};
+ghost use Rattle.assembler.specs.Text.{assembleOf};
 ghost use Rattle.insn.specs.Table.{lengthOf, untakenOf};
 ghost use Rattle.listing.specs.Answer.{listOf};
 ghost use Rattle.machine.specs.Answers.{Gives};
 ghost use Rattle.trnadulek.specs.Block.{loadBlockOf, openBlockOf, saveBlockOf, saveBlockImageOf};
-ghost use Rattle.trnadulek.specs.Calls.{StepGives, stepBlockOf, RunGives, runBlockOf, ImageGives, runImageOf, ListGives};
+ghost use Rattle.trnadulek.specs.Calls.{StepGives, stepBlockOf, RunGives, runBlockOf, ImageGives, runImageOf, ListGives, AssembleGives};
 ghost use Rattle.trnadulek.specs.Sizes.{sizeOf, libraryVersion};
 ghost use Rattle.trnadulek.specs.Wording.{wordingOf, tellOf};
 
@@ -147,6 +148,25 @@ pub extern "C" fn trnadulek_list(
     listed.code
 }
 
+// The bytes of lines of spelling, the first of which stands at an address. Refusals, for the first line at fault, whose number from 1 is
+// left beside it: 12 a line of no such form, 13 nesting deeper than 16, 14 a number or a value out of range, 10 no room. They leave the
+// output as it is and length 0.
+#[no_mangle]
+pub extern "C" fn trnadulek_assemble(
+    text: &[u8],
+    first: u16,
+    out: &mut [u8],
+    line: &mut usize,
+    length: &mut usize,
+) -> u8
+    ensures { λ r. ⌜ AssembleGives (assembleOf first (now (text .entry)) (now (out .entry))) r (now (out .exit)) (now (line .exit)) (now (length .exit)) ⌝ }
+{
+    let assembled = assembler::assemble(text, first, out);
+    *line = assembled.line;
+    *length = assembled.length;
+    assembled.code
+}
+
 // The bytes of a row of the opcode table, and 0 for a row that has none.
 #[no_mangle]
 pub extern "C" fn trnadulek_length(row: u32) -> u8
@@ -185,7 +205,7 @@ pub extern "C" fn trnadulek_size(which: u32) -> u32
 pub extern "C" fn trnadulek_version() -> u32
     ensures { λ r. ⌜ r ≡ libraryVersion ⌝ }
 {
-    500
+    600
 }
 
 // The words for a refusal number, written if there is room for all of them. The answer is how many bytes they have.

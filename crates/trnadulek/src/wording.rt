@@ -28,6 +28,9 @@ pub(crate) fn tell(code: u8, out: &mut [u8]) -> usize
         9 => put(b"IME code above 2, or mode code above 3", out),
         10 => put(b"output too short", out),
         11 => put(b"edition number is neither 1 nor 2", out),
+        12 => put(b"a line of no such form", out),
+        13 => put(b"nesting deeper than 16", out),
+        14 => put(b"number or value out of range", out),
         _ => 0,
     }
 }

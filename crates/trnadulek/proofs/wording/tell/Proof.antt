@@ -19,7 +19,7 @@ told : {code k r : ℕ} {left : List ℕ} (out : List ℕ) → code ≡ k → Gi
 told out e h = rw e h
 
 -- there is room for no wording everywhere
-unnamed : tie.Need-returns-13
+unnamed : tie.Need-returns-16
 unfolding tellOf putIf
 unnamed c =
     let start = c .before .before in
@@ -30,7 +30,7 @@ pub tell-spec : {M : Type 1} → statement M
 unfolding ascii wordings wordingOf
 tell-spec =
     tie.close (tie.spec
-    (search needs) (search needs) (search needs) (search needs) (search needs) (search needs) (search needs) (search needs) (search needs) (search needs) (search needs) (search needs) (search needs) (search needs) (search needs) (search needs) (search needs) (search needs) (search needs) (search needs) (search needs) (search needs) (search needs) (search needs) (search needs)
+    (search needs) (search needs) (search needs) (search needs) (search needs) (search needs) (search needs) (search needs) (search needs) (search needs) (search needs) (search needs) (search needs) (search needs) (search needs) (search needs) (search needs) (search needs) (search needs) (search needs) (search needs) (search needs) (search needs) (search needs) (search needs) (search needs) (search needs) (search needs) (search needs) (search needs) (search needs)
     (λ c. told _ (c .before .before .before .before .before .match .keys1) (c .before .before .put .ensures)) (search needs)
     (λ c. told _ (c .before .before .before .before .before .match .keys2) (c .before .before .put2 .ensures)) (search needs)
     (λ c. told _ (c .before .before .before .before .before .match .keys3) (c .before .before .put3 .ensures)) (search needs)
@@ -42,5 +42,8 @@ tell-spec =
     (λ c. told _ (c .before .before .before .before .before .match .keys9) (c .before .before .put9 .ensures)) (search needs)
     (λ c. told _ (c .before .before .before .before .before .match .keys10) (c .before .before .put10 .ensures)) (search needs)
     (λ c. told _ (c .before .before .before .before .before .match .keys11) (c .before .before .put11 .ensures)) (search needs)
-    (λ c. told _ (c .before .before .before .before .before .match .keys12) (c .before .before .put12 .ensures))
+    (λ c. told _ (c .before .before .before .before .before .match .keys12) (c .before .before .put12 .ensures)) (search needs)
+    (λ c. told _ (c .before .before .before .before .before .match .keys13) (c .before .before .put13 .ensures)) (search needs)
+    (λ c. told _ (c .before .before .before .before .before .match .keys14) (c .before .before .put14 .ensures)) (search needs)
+    (λ c. told _ (c .before .before .before .before .before .match .keys15) (c .before .before .put15 .ensures))
     unnamed)
