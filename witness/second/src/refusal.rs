@@ -12,6 +12,9 @@ pub const BLOCK_LENGTH: u8 = 8;
 pub const STATE_CODE: u8 = 9;
 pub const ROOM: u8 = 10;
 pub const EDITION: u8 = 11;
+pub const LINE: u8 = 12;
+pub const NESTING: u8 = 13;
+pub const RANGE: u8 = 14;
 
 /// What a number means, in the words that the project has for it everywhere.
 pub fn sentence(code: u8) -> &'static str {
@@ -28,6 +31,9 @@ pub fn sentence(code: u8) -> &'static str {
         STATE_CODE => "IME code above 2, or mode code above 3",
         ROOM => "output too short",
         EDITION => "edition number is neither 1 nor 2",
+        LINE => "the line has no such form",
+        NESTING => "parentheses are nested deeper than 16",
+        RANGE => "a number or a value is out of range",
         _ => "no such refusal number",
     }
 }

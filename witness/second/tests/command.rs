@@ -6,7 +6,7 @@ use common::memory;
 use second::{open_image, save_image, State};
 use std::io::Write;
 use std::path::{Path, PathBuf};
-use std::process::{Command, Stdio};
+use std::process::{Command, Output, Stdio};
 
 /// What a call of the binary did.
 struct Called {
@@ -16,6 +16,15 @@ struct Called {
 }
 
 fn call(arguments: &[&str], input: &[u8]) -> Called {
+    let output = call_for_bytes(arguments, input);
+    Called {
+        status: output.status.code().unwrap(),
+        out: String::from_utf8(output.stdout).unwrap(),
+        err: String::from_utf8(output.stderr).unwrap(),
+    }
+}
+
+fn call_for_bytes(arguments: &[&str], input: &[u8]) -> Output {
     let mut child = Command::new(env!("CARGO_BIN_EXE_second"))
         .args(arguments)
         .stdin(Stdio::piped())
@@ -25,12 +34,7 @@ fn call(arguments: &[&str], input: &[u8]) -> Called {
         .unwrap();
     // A command that reads no input may be gone before it is all written.
     let _ = child.stdin.take().unwrap().write_all(input);
-    let output = child.wait_with_output().unwrap();
-    Called {
-        status: output.status.code().unwrap(),
-        out: String::from_utf8(output.stdout).unwrap(),
-        err: String::from_utf8(output.stderr).unwrap(),
-    }
+    child.wait_with_output().unwrap()
 }
 
 /// The call prints `out`, and nothing else.
@@ -256,6 +260,32 @@ fn list_takes_either_edition_and_no_other() {
 }
 
 #[test]
+fn assemble_prints_the_bytes_of_the_standard_input() {
+    let output = call_for_bytes(&["assemble", "0150"], b"JR NZ,$014A\nDB $D3\n");
+    assert!(output.status.success() && output.stderr.is_empty());
+    assert_eq!(output.stdout, [0x20, 0xF8, 0xD3]);
+    answers(&["assemble", "fFfF"], "");
+    let longer = call_for_bytes(&["assemble", "0"], &b"NOP\n".repeat(70_000));
+    assert_eq!(longer.stdout, [0x00; 70_000]);
+}
+
+#[test]
+fn assemble_tells_the_line_at_fault() {
+    let deep = format!("NOP\nDB {}5{}\n", "(".repeat(17), ")".repeat(17));
+    for (text, told) in [
+        ("nop\n", "line 1 is refused with 12: "),
+        ("NOP\nNOP", "line 2 is refused with 12: "),
+        (&deep, "line 2 is refused with 13: "),
+        ("NOP\nNOP\nDB 256\nx\n", "line 3 is refused with 14: "),
+    ] {
+        let called = call(&["assemble", "0150"], text.as_bytes());
+        assert_eq!((called.status, &*called.out), (1, ""));
+        assert!(is_one_line(&called.err), "{:?}", called.err);
+        assert!(called.err.contains(told), "{:?}", called.err);
+    }
+}
+
+#[test]
 fn bad_usage_is_one_line() {
     let folder = Folder::new("usage");
     let file = folder.put("image", &small());
@@ -276,6 +306,10 @@ fn bad_usage_is_one_line() {
     fails(&["list", "0", ""], 2, "EDITION");
     fails(&["list", "0", "old"], 2, "EDITION");
     fails(&["list", "0", "4294967297"], 2, "EDITION");
+    fails(&["assemble"], 2, "usage: ");
+    fails(&["assemble", "0", "2"], 2, "usage: ");
+    fails(&["assemble", "10000"], 2, "FIRST");
+    fails(&["assemble", "-1"], 2, "FIRST");
     fails(&["load", &folder.path("absent")], 2, "cannot read");
     fails(&["load", &folder.path("")], 2, "cannot read");
     assert!(!folder.has("out"));

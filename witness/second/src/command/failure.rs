@@ -7,13 +7,15 @@ pub enum Failure {
     Trouble(String),
     /// The core refused, with this number.
     Refusal(u8),
+    /// The core refused, with this number, for the line of that one.
+    InLine(u8, usize),
 }
 
 impl Failure {
     /// The status that the process ends with.
     pub fn status(&self) -> u8 {
         match self {
-            Failure::Refusal(_) => 1,
+            Failure::Refusal(_) | Failure::InLine(..) => 1,
             Failure::Trouble(_) => 2,
         }
     }
@@ -25,6 +27,10 @@ impl fmt::Display for Failure {
             Failure::Trouble(text) => write!(out, "{text}"),
             Failure::Refusal(code) => {
                 write!(out, "refused with {code}: {}", second::sentence(*code))
+            }
+            Failure::InLine(code, line) => {
+                let sentence = second::sentence(*code);
+                write!(out, "line {line} is refused with {code}: {sentence}")
             }
         }
     }

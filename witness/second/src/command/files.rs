@@ -42,8 +42,13 @@ pub fn new_file(path: &OsStr, bytes: &[u8]) -> Result<(), Failure> {
 
 /// Writes to the standard output.
 pub fn say(text: &str) -> Result<(), Failure> {
+    say_bytes(text.as_bytes())
+}
+
+/// Writes bytes to the standard output.
+pub fn say_bytes(bytes: &[u8]) -> Result<(), Failure> {
     let mut out = stdout().lock();
-    out.write_all(text.as_bytes())
+    out.write_all(bytes)
         .and_then(|()| out.flush())
         .map_err(|error| Failure::Trouble(format!("cannot write the answer: {error}")))
 }

@@ -5,13 +5,13 @@ mod files;
 mod numbers;
 
 use failure::{refused, usage, Failure};
-use files::{new_file, read_all_input, read_at_most, read_input, say};
+use files::{new_file, read_all_input, read_at_most, read_input, say, say_bytes};
 use second::{State, HEAD_SIZE, IMAGE_SIZE, INPUT_SIZE, MEMORY_SIZE};
 use std::ffi::{OsStr, OsString};
 
 const USAGE: &str = "usage: second program | table | step IMAGE OUT | run IMAGE BUDGET OUT \
                      | load FILE | save OUT AF BC DE HL SP PC IME MODE [MEMORY] \
-                     | list FIRST EDITION";
+                     | list FIRST EDITION | assemble FIRST";
 
 /// AF BC DE HL SP PC IME MODE.
 const REGISTERS: usize = 8;
@@ -30,6 +30,7 @@ pub fn perform(arguments: &[OsString]) -> Result<(), Failure> {
         (Some("load"), [file]) => load(file),
         (Some("save"), [out, registers @ ..]) => save(out, registers),
         (Some("list"), [first, edition]) => list(first, edition),
+        (Some("assemble"), [first]) => assemble(first),
         _ => Err(usage(USAGE)),
     }
 }
@@ -106,6 +107,13 @@ fn list(first: &OsStr, edition: &OsStr) -> Result<(), Failure> {
     let edition = numbers::decimal("EDITION", edition)?;
     let text = second::listing(&read_all_input()?, first, edition);
     say(&text.map_err(Failure::Refusal)?)
+}
+
+/// Assembles the standard input from an address on; the bytes are printed as they are.
+fn assemble(first: &OsStr) -> Result<(), Failure> {
+    let first = numbers::word("FIRST", first)?;
+    let bytes = second::assembly(&read_all_input()?, first, usize::MAX);
+    say_bytes(&bytes.map_err(|fault| Failure::InLine(fault.code, fault.line))?)
 }
 
 fn open(file: &OsStr) -> Result<(State, Vec<u8>), Failure> {
