@@ -30,6 +30,8 @@ pub enum Kind {
     Block,
     /// The listing of a part of any length, in an edition; the number is its first address.
     List,
+    /// The assembly of a text of any length; the number is its first address.
+    Assemble,
     /// The row of the opcode table that the number names.
     Row,
     /// The program on its standard input.
@@ -62,7 +64,7 @@ const fn form(
     }
 }
 
-const FORMS: [Form; 12] = [
+const FORMS: [Form; 13] = [
     form(Kind::Step, "step", true, None, MEMORY_SIZE),
     form(Kind::Run, "run", true, Some("budget"), MEMORY_SIZE),
     form(
@@ -85,6 +87,7 @@ const FORMS: [Form; 12] = [
     ),
     form(Kind::Block, "block", false, Some("room"), 14),
     form(Kind::List, "list", false, Some("first"), 0),
+    form(Kind::Assemble, "assemble", false, Some("first"), 0),
     form(Kind::Row, "row", false, Some("row"), 0),
     form(Kind::Program, "program", false, None, INPUT_SIZE),
 ];
@@ -92,7 +95,7 @@ const FORMS: [Form; 12] = [
 impl Kind {
     /// Whether bytes of any length mean something, and none of them is refused for it.
     pub fn takes_any_length(self) -> bool {
-        self == Kind::List
+        matches!(self, Kind::List | Kind::Assemble)
     }
 
     pub fn has_edition(self) -> bool {
@@ -134,6 +137,10 @@ impl Input {
             edition,
             ..Self::new(Kind::List, State::default(), first.into(), part)
         }
+    }
+
+    pub fn assemble(text: Vec<u8>, first: u16) -> Self {
+        Self::new(Kind::Assemble, State::default(), first.into(), text)
     }
 
     pub fn new(kind: Kind, state: State, number: u32, bytes: Vec<u8>) -> Self {
@@ -290,6 +297,7 @@ mod tests {
             Input::bytes(Kind::Load, vec![9; 24]),
             Input::list(vec![0x20, 0xF8, 0xD3], 0x150, paper::OLD),
             Input::list(Vec::new(), 0xFFFF, u32::MAX),
+            Input::assemble(b"LD A,($12)\nNOP\n".to_vec(), 0x150),
             Input::new(Kind::Row, State::default(), 511, Vec::new()),
         ] {
             assert_eq!(parse(&words(&input.to_string())), Ok(input));
@@ -311,6 +319,7 @@ mod tests {
             "load AF=0000",
             "row budget=1",
             "row edition=1",
+            "assemble edition=1",
             "list edition=-1",
             "list edition=4294967296",
         ] {

@@ -1,6 +1,9 @@
 //! What document 01 fixes outright, stated here once more and taken from no core:
 //! the refusals and their order, dispatch and HALT as M-100 of document 02 has them,
-//! the saved form, the program's text, and how M-102 has the old edition of a listing.
+//! the saved form, the program's text, how M-102 has the old edition of a listing, and
+//! in `lines` what M-103 says of an assembler's lines.
+
+pub mod lines;
 
 use crate::answer::Answer;
 use second::{Ime, Mode, State};
@@ -28,6 +31,9 @@ pub const BLOCK_LENGTH: u8 = 8;
 pub const STATE_CODE: u8 = 9;
 pub const ROOM: u8 = 10;
 pub const EDITION: u8 = 11;
+pub const LINE: u8 = 12;
+pub const NESTING: u8 = 13;
+pub const RANGE: u8 = 14;
 
 /// The editions of a listing.
 pub const OLD: u32 = 1;

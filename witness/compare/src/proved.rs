@@ -58,6 +58,11 @@ pub fn list(part: &[u8], first: u16, edition: u32, out: &mut [u8]) -> Option<(u8
     call::list(part, first, edition, out)
 }
 
+/// Code, line at fault and length of a text's bytes, which are written to the front of `out`.
+pub fn assemble(text: &[u8], first: u16, out: &mut [u8]) -> Option<(u8, usize, usize)> {
+    call::assemble(text, first, out)
+}
+
 /// Length and untaken cycles of a row of the opcode table.
 pub fn row(row: u32) -> Option<(u8, u8)> {
     call::row(row)
@@ -118,6 +123,12 @@ mod call {
         Some((code, length))
     }
 
+    pub fn assemble(text: &[u8], first: u16, out: &mut [u8]) -> Option<(u8, usize, usize)> {
+        let (mut line, mut length) = (UNWRITTEN_LENGTH, UNWRITTEN_LENGTH);
+        let code = link::assemble(text, first, out, &mut line, &mut length);
+        Some((code, line, length))
+    }
+
     pub fn row(row: u32) -> Option<(u8, u8)> {
         Some((link::length(row), link::untaken_cycles(row)))
     }
@@ -156,6 +167,10 @@ mod call {
     }
 
     pub fn list(_: &[u8], _: u16, _: u32, _: &mut [u8]) -> Option<(u8, usize)> {
+        None
+    }
+
+    pub fn assemble(_: &[u8], _: u16, _: &mut [u8]) -> Option<(u8, usize, usize)> {
         None
     }
 

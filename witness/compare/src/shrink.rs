@@ -12,6 +12,9 @@ const ROUNDS: usize = 4;
 /// A long run in which every byte matters isn't searched to the end.
 const PATIENCE: Duration = Duration::from_secs(15);
 
+/// At so many places bytes are left out between others.
+const PLACES: usize = 64;
+
 type Edit = fn(&mut State);
 
 const REGISTERS: [Edit; 12] = [
@@ -93,7 +96,7 @@ impl Search<'_> {
         }
     }
 
-    /// Leaves out bytes at the end or at the front, many at once and then fewer.
+    /// Leaves out bytes at the end, at the front or between, many at once and then fewer.
     fn length(&mut self) {
         if !self.input.kind.takes_any_length() {
             return;
@@ -109,6 +112,9 @@ impl Search<'_> {
         let stay = self.input.bytes.len() - less;
         self.keep(|input| input.bytes.truncate(stay))
             || self.keep(|input| input.bytes = input.bytes.split_off(less))
+            || (1..stay)
+                .step_by(less.max(stay / PLACES))
+                .any(|at| self.keep(|input| drop(input.bytes.drain(at..at + less))))
     }
 
     fn registers(&mut self) {
@@ -162,6 +168,17 @@ mod tests {
         bytes[700] = 0x10;
         let mut fails = |input: &Input| input.bytes.windows(2).any(|pair| pair == [0x10, 0x55]);
         assert_eq!(smallest(part(bytes), &mut fails), part(vec![0x10, 0x55]));
+    }
+
+    #[test]
+    fn a_text_loses_what_stands_between() {
+        let text = |text: &str| Input::assemble(text.as_bytes().to_vec(), 0);
+        let mut fails = |input: &Input| {
+            let bytes = &input.bytes;
+            bytes.starts_with(b"DB ") && bytes.contains(&b'9') && bytes.ends_with(b"\n")
+        };
+        let long = format!("DB {}9{}\n", "1+".repeat(300), "+2".repeat(500));
+        assert_eq!(smallest(text(&long), &mut fails), text("DB 9\n"));
     }
 
     #[test]

@@ -35,6 +35,8 @@ fn bad_usage_is_one_line_and_a_status() {
         &["again", "row", "row=-1"],
         &["again", "list", "first=-1"],
         &["again", "list", "edition=-1"],
+        &["again", "assemble", "first=-1"],
+        &["again", "assemble", "edition=1"],
         &["inputs"],
         &["inputs", ""],
         &["inputs", "a", "b"],
@@ -59,7 +61,7 @@ fn list_names_what_can_be_run() {
         .lines()
         .filter_map(|line| line.split(' ').next())
         .collect();
-    assert_eq!(names.len(), 31);
+    assert_eq!(names.len(), 35);
     let output = compare(&["--seed", "7", "daa", names[0]]);
     assert!(output.status.success());
     let printed = text(&output.stdout);
@@ -91,6 +93,14 @@ fn again_judges_one_input() {
         assert!(part.status.success());
         assert!(text(&part.stdout).contains("the second program"));
     }
+    let words = [
+        "again",
+        "assemble",
+        "first=336",
+        "size=5",
+        "0000:444220350A",
+    ];
+    assert!(compare(&words).status.success());
     let far = compare(&["again", "list", "first=65536"]);
     assert_eq!(far.status.code(), Some(1));
     let judged_by_none = compare(&["again", "adding"]);

@@ -2,6 +2,7 @@
 //! checks serve the comparisons, the search for a smaller input, and `again`.
 
 mod adding;
+mod assembling;
 mod block;
 mod image;
 mod listing;
@@ -31,6 +32,7 @@ pub fn check(bench: &mut Bench, input: &Input) -> Verdict {
         Kind::SaveImage => saved::save_image(input),
         Kind::Block => block::block(input),
         Kind::List => listing::listing(input),
+        Kind::Assemble => assembling::assembling(input),
         Kind::Row => table::row(bench, input),
         Kind::Program => program::program(bench, input),
     }

@@ -12,11 +12,11 @@ use random::Random;
 pub const EDITIONS: [u32; 2] = [NEW, OLD];
 
 /// First addresses on both sides of where something turns over.
-const FIRSTS: [u16; 8] = [
+pub const FIRSTS: [u16; 8] = [
     0x0000, 0x0001, 0x7FFE, 0x7FFF, 0x8000, 0xFFFD, 0xFFFE, 0xFFFF,
 ];
 
-const WORDS: [u16; 7] = [0x0000, 0x00FF, 0x0100, 0x7FFF, 0x8000, 0xFF00, 0xFFFF];
+pub const WORDS: [u16; 7] = [0x0000, 0x00FF, 0x0100, 0x7FFF, 0x8000, 0xFF00, 0xFFFF];
 const BYTES: [u8; 5] = [0x00, 0x01, 0x7F, 0x80, 0xFF];
 
 pub fn listing(context: &mut Context) -> Outcome {
@@ -172,8 +172,8 @@ fn every_pair(context: &mut Context) -> Outcome {
 }
 
 /// How many random parts there are, and the length that they stay below.
-const RANDOM_PARTS: [(usize, u32); 3] = [(4_000, 65), (100, 4_097), (20, 70_001)];
-const LONG_PARTS: [usize; 4] = [MEMORY_SIZE - 1, MEMORY_SIZE, MEMORY_SIZE + 1, 70_000];
+pub const RANDOM_PARTS: [(usize, u32); 3] = [(4_000, 65), (100, 4_097), (20, 70_001)];
+pub const LONG_PARTS: [usize; 4] = [MEMORY_SIZE - 1, MEMORY_SIZE, MEMORY_SIZE + 1, 70_000];
 
 fn random_parts(context: &mut Context) -> Outcome {
     for (count, limit) in RANDOM_PARTS {
@@ -194,7 +194,7 @@ fn check_random(context: &mut Context, length: usize) -> Outcome {
     check(context, first, &part)
 }
 
-fn random_part(rng: &mut Random, length: usize) -> Vec<u8> {
+pub fn random_part(rng: &mut Random, length: usize) -> Vec<u8> {
     match rng.one_in(3) {
         true => (0..length).map(|_| odd_byte(rng)).collect(),
         false => rng.bytes(length),

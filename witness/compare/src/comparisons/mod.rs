@@ -2,6 +2,7 @@
 
 mod adding;
 mod addresses;
+mod assembling;
 mod bytes;
 mod cases;
 mod halt;
@@ -68,7 +69,7 @@ fn comparison(
 
 /// All of them, in the order in which they are run.
 #[rustfmt::skip] // One line for each.
-pub fn all() -> [Comparison; 31] {
+pub fn all() -> [Comparison; 35] {
     [
         comparison("cases", "the twelve cases of document 01", Both, cases::cases),
         comparison("table", "every row, and rows above 511", Mgba, table::table),
@@ -100,6 +101,10 @@ pub fn all() -> [Comparison; 31] {
         comparison("images", "images opened and saved", Neither, saved::images),
         comparison("listing", "parts as text, in both editions and no other", Neither, listing::listing),
         comparison("spellings", "a line's spelling stands for its bytes alone", Neither, spellings::spellings),
+        comparison("operands", "every form of a line, constants at the edges", Neither, assembling::operands),
+        comparison("constants", "numbers, sums and brackets of any length", Neither, assembling::constants),
+        comparison("lines", "lines changed a little, texts with faults", Neither, assembling::lines),
+        comparison("round-trips", "listings assembled give their bytes back", Neither, assembling::round_trips),
         comparison("program", "the program's text", Both, program::program),
     ]
 }

@@ -1,6 +1,7 @@
 //! What stands after an instruction's name, read from the left.
 
 use super::constant::{constant, Constant};
+use Operand::{At, AtConstant, Named, SpPlus};
 
 /// An operand by its form; whether a name means anything is not asked here.
 #[derive(Clone, Copy, PartialEq, Eq, Debug)]
@@ -15,8 +16,6 @@ pub enum Operand<'a> {
     /// SP, a plus, and a constant.
     SpPlus(Constant),
 }
-
-use Operand::{At, AtConstant, Named, SpPlus};
 
 /// The capitals at the front, perhaps none, and what follows them.
 pub fn name(text: &[u8]) -> (&[u8], &[u8]) {
