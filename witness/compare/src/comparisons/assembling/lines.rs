@@ -4,7 +4,7 @@
 use super::forms::spellings;
 use super::{check, given, nested, ADDRESS};
 use crate::context::{Context, Outcome};
-use crate::paper::{DONE, LINE, NESTING, RANGE};
+use crate::paper::{LINE, NESTING, RANGE};
 use std::collections::BTreeSet;
 
 pub fn lines(context: &mut Context) -> Outcome {
@@ -85,30 +85,11 @@ const OTHER_NAMES: [&str; 12] = [
     "", "LDHL", "LDIR", "IN", "OUT", "EX", "NEG", "DW", "ORG", "CB", "A", "SP",
 ];
 
-/// Operands that other assemblers have.
-const OTHER_OPERANDS: [&str; 22] = [
-    "AF",
-    "IX",
-    "PC",
-    "F",
-    "M",
-    "[SP]",
-    "[AF]",
-    "[A]",
-    "[BC+1]",
-    "[HL+]",
-    "[HL-]",
-    "(HL)",
-    "(C)",
-    "!Z",
-    "PO",
-    "SP+B",
-    "SP-5",
-    "SP",
-    "[SP+5]",
-    "[$FF00+C]",
-    "5",
-    "[5]",
+/// Operands that other assemblers have, and constants that stand for all of their kind.
+#[rustfmt::skip] // As many in a line as fit.
+const OTHER_OPERANDS: [&str; 25] = [
+    "AF", "IX", "PC", "F", "M", "[SP]", "[AF]", "[A]", "[BC+1]", "[HL+]", "[HL-]", "(HL)", "(C)", "!Z", "PO",
+    "SP+B", "SP-5", "SP", "[SP+5]", "[$FF00+C]", "[5]", "5", "$08", "$0186", "$FF34",
 ];
 
 /// Every name with every operand and every pair of operands that some spelling has.
@@ -117,13 +98,11 @@ fn exchanged_operands(context: &mut Context) -> Outcome {
     for line in spellings().into_keys() {
         let (name, rest) = line.split_once(' ').unwrap_or((&line, ""));
         names.insert(name.to_string());
-        // The constants of two digits and of four stand for all of their kind.
         operands.extend(rest.split(',').map(String::from));
     }
+    operands.retain(|operand| !operand.starts_with(|letter: char| "$01234567".contains(letter)));
     names.extend(OTHER_NAMES.map(String::from));
     operands.extend(OTHER_OPERANDS.map(String::from));
-    operands.retain(|operand| !operand.starts_with('$') || ["$08", "$0186"].contains(&&**operand));
-    operands.retain(|operand| !operand.starts_with(|digit: char| ('1'..='7').contains(&digit)));
     for name in &names {
         check(context, format!("{name}\n").as_bytes())?;
         for operand in &operands {
@@ -137,11 +116,11 @@ fn exchanged_operands(context: &mut Context) -> Outcome {
 }
 
 /// What lines are made of, and some words that are in none.
+#[rustfmt::skip] // As many in a line as fit.
 const WORDS: [&str; 52] = [
-    "LD", "LDH", "LDIO", "LDI", "LDD", "ADD", "SUB", "CP", "INC", "BIT", "JP", "JR", "CALL", "RET",
-    "RST", "PUSH", "DB", "NOP", "STOP", "A", "B", "C", "HL", "SP", "AF", "BC", "NZ", "HLI", " ",
-    " ", " ", ",", ",", "[", "]", "[HL]", "(", ")", "+", "-", "$", "$FF", "0", "5", "8", "56",
-    "255", "65535", "\n", "\n", "\r", "a",
+    "LD", "LDH", "LDIO", "LDI", "LDD", "ADD", "SUB", "CP", "INC", "BIT", "JP", "JR", "CALL", "RET", "RST", "PUSH",
+    "DB", "NOP", "STOP", "A", "B", "C", "HL", "SP", "AF", "BC", "NZ", "HLI", " ", " ", " ", ",", ",", "[", "]",
+    "[HL]", "(", ")", "+", "-", "$", "$FF", "0", "5", "8", "56", "255", "65535", "\n", "\n", "\r", "a",
 ];
 
 const RANDOM_LINES: usize = 30_000;
@@ -198,38 +177,29 @@ fn texts(context: &mut Context) -> Outcome {
 fn text(context: &mut Context, lines: &[&Known]) -> Outcome {
     let mut text: String = lines.iter().map(|(line, _)| &**line).collect();
     let mut bytes = Vec::new();
-    let mut wanted = (DONE, 0);
+    let mut fault = None;
     for ((_, answer), number) in lines.iter().zip(1..) {
         match answer {
             Ok(taken) => bytes.extend(*taken),
             Err(code) => {
-                wanted = (*code, number);
+                fault = Some((*code, number));
                 break;
             }
         }
     }
-    let right = wanted.0 == DONE;
-    given(
-        context,
-        text.as_bytes(),
-        ADDRESS,
-        if right { Ok(&bytes) } else { Err(wanted) },
-    )?;
+    let wanted = fault.map_or(Ok(&*bytes), Err);
+    given(context, text.as_bytes(), ADDRESS, wanted)?;
     text.pop();
-    // An empty last line that loses its newline is none.
-    let last = if text.is_empty() || text.ends_with('\n') {
-        None
-    } else {
-        Some(lines.len())
-    };
-    match (last, wanted) {
-        (Some(last), (DONE, _)) => given(context, text.as_bytes(), ADDRESS, Err((LINE, last))),
-        (Some(last), (_, line)) if line == last => {
-            given(context, text.as_bytes(), ADDRESS, Err((LINE, last)))
-        }
-        (Some(_), wanted) => given(context, text.as_bytes(), ADDRESS, Err(wanted)),
-        (None, _) => check(context, text.as_bytes()),
+    if text.is_empty() || text.ends_with('\n') {
+        // The last line was empty, and is none now.
+        return check(context, text.as_bytes());
     }
+    let last = lines.len();
+    let wanted = match fault {
+        Some((code, line)) if line < last => (code, line),
+        _ => (LINE, last),
+    };
+    given(context, text.as_bytes(), ADDRESS, Err(wanted))
 }
 
 const RANDOM_TEXTS: usize = 6_000;

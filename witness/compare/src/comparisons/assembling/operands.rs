@@ -18,8 +18,11 @@ pub fn operands(context: &mut Context) -> Outcome {
         if form.kind == Kind::Target {
             reach(context, &form)?;
         }
+        if form.before == "JR " {
+            beyond_the_memory(context, &form)?;
+        }
     }
-    beyond_the_memory(context)
+    Ok(())
 }
 
 /// Both sides of every limit that some kind of constant has.
@@ -58,7 +61,7 @@ fn ways(value: i64) -> BTreeSet<String> {
         format!("({value})"),
         format!("-({})", -value),
         format!("{half}{joined}{rest}"),
-        format!("({half})+(${:X})-(-({rest}))-${:X}", 7, 7),
+        format!("({half})+($7)-(-({rest}))-$7"),
         format!("65535+$FFFF-65535-$FFFF+({value})"),
         format!("-65535-(65535+({}))+65535+65535", -value),
     ])
@@ -140,28 +143,13 @@ fn reaches(
 }
 
 /// A line's address counts modulo 65,536 also where more bytes than that come before it.
-fn beyond_the_memory(context: &mut Context) -> Outcome {
+fn beyond_the_memory(context: &mut Context, form: &Form) -> Outcome {
     for more in [65_535, 65_536, 65_537, 131_072] {
-        for (target, due) in [
-            (0_i64, true),
-            (-126, true),
-            (129, true),
-            (-127, false),
-            (130, false),
-        ] {
-            let place = (usize::from(ADDRESS) + more) as i64;
-            let target = (place + target).rem_euclid(65_536);
-            let text = format!("{}JR {target}\n", "NOP\n".repeat(more));
-            let mut jump = vec![0; more];
-            let place = (place % 65_536) as u16;
-            let wanted = bytes(Kind::Target, 0x18, target.into(), place);
-            assert_eq!(wanted.is_ok(), due);
-            jump.extend(wanted.iter().flatten());
-            let wanted = wanted
-                .as_ref()
-                .map(|_| &*jump)
-                .map_err(|code| (*code, more + 1));
-            given(context, text.as_bytes(), ADDRESS, wanted)?;
+        for distance in [-129, -128, -2, 127, 128] {
+            let place = i64::from(ADDRESS) + more as i64;
+            let target = (place + 2 + distance).rem_euclid(65_536);
+            let (before, taken) = ("NOP\n".repeat(more), vec![0; more]);
+            reaches(context, form, &before, &taken, ADDRESS, target)?;
         }
     }
     Ok(())
