@@ -36,10 +36,10 @@
  * What a call does with them: it writes only where a pointer is not const,
  * and only what its comment says. It keeps no pointer and no state, allocates
  * nothing, reads no clock and no file, calls nothing of the host, and returns
- * after at most a budget's worth of steps, or two readings of what is listed.
- * So it is reentrant, and calls on different bytes may run at the same time, in
- * any threads. It needs less than 1,024 bytes of stack, whatever the budget and
- * the lengths.
+ * after at most a budget's worth of steps, or a few readings of what is listed
+ * or assembled. So it is reentrant, and calls on different bytes may run at the
+ * same time, in any threads. It needs less than 1,024 bytes of stack, whatever
+ * the budget and the lengths; trnadulek_assemble less than 4,096.
  *
  * This header is C99 and C++11. Link with libtrnadulek.a, which is for x86-64
  * Linux.
@@ -97,7 +97,10 @@ enum trnadulek_code {
     TRNADULEK_BLOCK_LENGTH = 8,  /* a block length is not 14, or not 65,536 */
     TRNADULEK_STATE_CODE = 9,    /* IME code above 2, or mode code above 3 */
     TRNADULEK_ROOM = 10,         /* output too short */
-    TRNADULEK_EDITION = 11       /* edition number is neither 1 nor 2 */
+    TRNADULEK_EDITION = 11,      /* edition number is neither 1 nor 2 */
+    TRNADULEK_LINE = 12,         /* the line has no such form */
+    TRNADULEK_NESTING = 13,      /* parentheses are nested deeper than 16 */
+    TRNADULEK_RANGE = 14         /* a number or a value is out of range */
 };
 
 /*
@@ -237,6 +240,52 @@ uint8_t trnadulek_untaken_cycles(uint32_t row);
  */
 uint8_t trnadulek_list(const uint8_t *part, size_t part_len, uint16_t first, uint32_t edition, uint8_t *out,
                        size_t out_len, size_t *length);
+
+/*
+ * Assembles a text: lines of spelling as trnadulek_list writes them behind the
+ * address and the bytes, each of either edition, to bytes. The first line's
+ * address is first; a line's is that plus the bytes before it, modulo 65,536.
+ *
+ *   JR NZ,$014A
+ *   DB $D3
+ *
+ * Every line ends in a line feed, the last one too. Names, capitals, commas and
+ * spaces are the listing's, and there is nothing else in a line: no comment, no
+ * label, no tab, no carriage return. The spelling alone decides the opcode:
+ * LD A,[$FF80] has three bytes and is never LDH.
+ *
+ * Where the listing has a number, a line may have any constant: terms joined by
+ * + or -, the first perhaps after a minus, which is that term's alone. A term is
+ * a decimal number, a number of hexadecimal digits behind $, or a constant in
+ * round brackets, which are arithmetic: LD A,($12) is LD A,$12. No space stands
+ * in it. A number is at most 65,535, with any count of digits; sums on the way
+ * have no limit, and the value of the whole must be in range:
+ *
+ *   a byte, and DB       -128 to 255, counted modulo 256
+ *   a word, an address   -32,768 to 65,535, counted modulo 65,536
+ *   LDH's, LDIO's        an address, which is then $FF00 to $FFFF
+ *   JR's target          an address, 128 back to 127 on from what follows the
+ *                        JR, over $FFFF and $0000 too
+ *   added to SP          -128 to 127
+ *   bit number           0 to 7
+ *   RST's vector         0, 8, 16, 24, 32, 40, 48, 56
+ *
+ * Refused for the first line that is at fault, and of it, in this order, with 12
+ * for its form, 13 for round brackets of which more than 16 are open at once, 14
+ * for a number above 65,535 or a value out of range, 10 for the room: its bytes
+ * do not fit behind those of the lines before it.
+ *
+ * 0: *length is how many bytes there are. They are at the front of out, and the
+ * bytes of out past them are unchanged. *line is 0. An empty text has length 0.
+ * Any other number: *line is the number of that line, counted from 1. *length is
+ * 0, and all of out is unchanged.
+ *
+ * The spellings of a whole listing, assembled from its first address, give its
+ * bytes back. Room of text_len bytes is always enough, since no line has more
+ * bytes than characters, and room of exactly as many bytes as there are is.
+ */
+uint8_t trnadulek_assemble(const uint8_t *text, size_t text_len, uint16_t first, uint8_t *out, size_t out_len,
+                           size_t *line, size_t *length);
 
 /*
  * The sizes as the library has them: 0 a head, 1 a state block, 2 the memory,

@@ -15,6 +15,7 @@ int main(void)
     test_images();
     test_saved();
     test_listing();
+    test_assembling();
     test_nulls();
     printf("%lu checks, %lu failed\n", checks_made(), checks_failed());
     return checks_failed() != 0;

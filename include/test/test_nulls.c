@@ -88,6 +88,37 @@ static void listings(void)
     listings_in(UINT32_MAX, of_none);
 }
 
+/* An empty text is done with no room at all; a line needs room, and its form is judged before that. */
+static void assemblies(void)
+{
+    static const uint8_t line[] = "RET\n", cut[] = "RET";
+    struct guarded out = guarded_bytes(3, 0xA5);
+    struct guarded before = guarded_bytes(3, 0xA5);
+    size_t fault = 0xA5A5, length = 0xA5A5;
+    check_number("assemble, no text and no room", TRNADULEK_DONE,
+                 trnadulek_assemble(NULL, 0, 0x0150, NULL, 0, &fault, &length));
+    check_number("assemble, no text and no room", 0, fault);
+    check_number("assemble, no text and no room", 0, length);
+    fault = length = 0xA5A5;
+    check_number("assemble, no text", TRNADULEK_DONE,
+                 trnadulek_assemble(NULL, 0, 0x0150, out.bytes, out.count, &fault, &length));
+    check_number("assemble, no text", 0, fault);
+    check_number("assemble, no text", 0, length);
+    check_bytes("assemble, no text", before.bytes, out.bytes, out.count);
+    length = 0xA5A5;
+    check_number("assemble, no room", TRNADULEK_ROOM,
+                 trnadulek_assemble(line, sizeof line - 1, 0x0150, NULL, 0, &fault, &length));
+    check_number("assemble, no room", 1, fault);
+    check_number("assemble, no room", 0, length);
+    length = 0xA5A5;
+    check_number("assemble, no line feed and no room", TRNADULEK_LINE,
+                 trnadulek_assemble(cut, sizeof cut - 1, 0x0150, NULL, 0, &fault, &length));
+    check_number("assemble, no line feed and no room", 1, fault);
+    check_number("assemble, no line feed and no room", 0, length);
+    guarded_release("beside bytes", &out);
+    guarded_release("beside old bytes", &before);
+}
+
 /* How long the words are can be asked with no room at all. */
 static void words(void)
 {
@@ -101,5 +132,6 @@ void test_nulls(void)
     steps_and_runs();
     loads_and_saves();
     listings();
+    assemblies();
     words();
 }

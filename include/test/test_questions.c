@@ -83,7 +83,10 @@ static void words(void)
     words_of(TRNADULEK_STATE_CODE, "IME code above 2, or mode code above 3");
     words_of(TRNADULEK_ROOM, "output too short");
     words_of(TRNADULEK_EDITION, "edition number is neither 1 nor 2");
-    for (code = TRNADULEK_EDITION + 1; code <= UINT8_MAX; code++) {
+    words_of(TRNADULEK_LINE, "the line has no such form");
+    words_of(TRNADULEK_NESTING, "parentheses are nested deeper than 16");
+    words_of(TRNADULEK_RANGE, "a number or a value is out of range");
+    for (code = TRNADULEK_RANGE + 1; code <= UINT8_MAX; code++) {
         words_with_room((uint8_t)code, "", 50);
         text_of((uint8_t)code, "");
     }

@@ -9,6 +9,7 @@ void test_runs(void);       /* the worked example, counts, refusals */
 void test_images(void);     /* images run where they lie */
 void test_saved(void);      /* heads and images, there and back, refusals */
 void test_listing(void);    /* bytes as text in both editions, its room, what stays */
+void test_assembling(void); /* text as bytes, the ranges, the refusals by line, what stays */
 void test_nulls(void);      /* NULL with a length of 0 */
 
 #endif
