@@ -13,7 +13,9 @@
 //! - [`save`] and [`load`] write and read a head, the 23 bytes of a saved state;
 //! - [`length`] and [`untaken_cycles`] look an opcode up;
 //! - [`list`] writes bytes as text, one line an instruction, in either [`Edition`] of the spelling;
-//!   `listing` answers it as a string.
+//!   `listing` answers it as a string;
+//! - [`assemble`] makes bytes of such text, of either edition and with sums for its numbers;
+//!   `assembled` answers them as a vector.
 //!
 //! The memory is never copied, except into an image that is saved.
 //!
@@ -37,8 +39,8 @@
 //! # Ok::<(), trnadulek::Ended>(())
 //! ```
 //!
-//! The feature `std`, which is on by default, gives the errors `std::error::Error`, and `listing`.
-//! Without it the crate is `no_std`.
+//! The feature `std`, which is on by default, gives the errors `std::error::Error`, and `listing` and
+//! `assembled`. Without it the crate is `no_std`.
 //!
 //! # The library
 //!
@@ -54,6 +56,7 @@
 #[cfg(feature = "std")]
 extern crate std;
 
+mod assembling;
 mod cpu;
 mod edition;
 mod image;
@@ -67,6 +70,9 @@ mod steps;
 mod table;
 mod version;
 
+#[cfg(feature = "std")]
+pub use assembling::assembled;
+pub use assembling::{assemble, Fault};
 pub use cpu::{Cpu, Ime, Mode, UnknownName};
 pub use edition::Edition;
 pub use image::{open_mut, run_image, Image};

@@ -50,6 +50,15 @@ mod extern_c {
             out_len: usize,
             length: *mut usize,
         ) -> u8;
+        pub fn trnadulek_assemble(
+            text: *const u8,
+            text_len: usize,
+            first: u16,
+            out: *mut u8,
+            out_len: usize,
+            line: *mut usize,
+            length: *mut usize,
+        ) -> u8;
         pub fn trnadulek_size(which: u32) -> u32;
         pub fn trnadulek_version() -> u32;
         pub fn trnadulek_words(code: u8, out: *mut u8, out_len: usize) -> usize;
@@ -123,6 +132,26 @@ pub fn list(part: &[u8], first: u16, edition: u32, out: &mut [u8], length: &mut 
             edition,
             out.as_mut_ptr(),
             out.len(),
+            length,
+        )
+    }
+}
+
+pub fn assemble(
+    text: &[u8],
+    first: u16,
+    out: &mut [u8],
+    line: &mut usize,
+    length: &mut usize,
+) -> u8 {
+    unsafe {
+        extern_c::trnadulek_assemble(
+            text.as_ptr(),
+            text.len(),
+            first,
+            out.as_mut_ptr(),
+            out.len(),
+            line,
             length,
         )
     }

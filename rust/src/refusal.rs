@@ -39,6 +39,12 @@ pub enum Refusal {
     Room,
     /// 11: edition number is neither 1 nor 2.
     Edition,
+    /// 12: the line has no such form.
+    Line,
+    /// 13: parentheses are nested deeper than 16.
+    Nesting,
+    /// 14: a number or a value is out of range.
+    Range,
 }
 
 /// No words are longer.
@@ -46,7 +52,7 @@ const LONGEST_WORDS: usize = 43;
 
 impl Refusal {
     /// Every refusal, in the order of the numbers.
-    pub const ALL: [Refusal; 11] = [
+    pub const ALL: [Refusal; 14] = [
         Refusal::MemoryLength,
         Refusal::FlagBits,
         Refusal::Stopped,
@@ -58,6 +64,9 @@ impl Refusal {
         Refusal::StateCode,
         Refusal::Room,
         Refusal::Edition,
+        Refusal::Line,
+        Refusal::Nesting,
+        Refusal::Range,
     ];
 
     /// The number that the core answers for it.
@@ -74,6 +83,9 @@ impl Refusal {
             Refusal::StateCode => 9,
             Refusal::Room => 10,
             Refusal::Edition => 11,
+            Refusal::Line => 12,
+            Refusal::Nesting => 13,
+            Refusal::Range => 14,
         }
     }
 
@@ -113,7 +125,7 @@ impl TryFrom<u8> for Refusal {
 
     /// # Errors
     ///
-    /// For a number that stands for no refusal: 0, which is done, and those above 11.
+    /// For a number that stands for no refusal: 0, which is done, and those above 14.
     fn try_from(number: u8) -> Result<Self, UnknownNumber> {
         let mut all = Refusal::ALL.into_iter();
         all.find(|refusal| refusal.number() == number)

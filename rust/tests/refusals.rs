@@ -1,4 +1,4 @@
-//! The numbers of document 01, "Refusal numbers", and its words; 10 and 11 are document 02's.
+//! The numbers of document 01, "Refusal numbers", and its words; 10 to 14 are document 02's.
 
 use std::error::Error;
 use trnadulek::{Refusal, UnknownNumber};
@@ -17,6 +17,9 @@ fn every_refusal_has_its_number_and_words() {
         (9, "IME code above 2, or mode code above 3"),
         (10, "output too short"),
         (11, "edition number is neither 1 nor 2"),
+        (12, "the line has no such form"),
+        (13, "parentheses are nested deeper than 16"),
+        (14, "a number or a value is out of range"),
     ];
     let told = Refusal::ALL.map(|refusal| (refusal.number(), refusal.to_string()));
     assert_eq!(
@@ -30,7 +33,7 @@ fn numbers_and_refusals_there_and_back() {
     for number in 0..=255 {
         let given = Refusal::try_from(number).map(Refusal::number);
         let wanted = match number {
-            1..=11 => Ok(number),
+            1..=14 => Ok(number),
             _ => Err(UnknownNumber(number)),
         };
         assert_eq!(given, wanted);
@@ -41,6 +44,6 @@ fn numbers_and_refusals_there_and_back() {
 fn a_refusal_is_an_error_and_so_is_a_number_that_is_none() {
     let error: Box<dyn Error> = Refusal::Version.into();
     assert_eq!(error.to_string(), "version byte is not 1");
-    let error: Box<dyn Error> = UnknownNumber(12).into();
-    assert_eq!(error.to_string(), "no refusal has the number 12");
+    let error: Box<dyn Error> = UnknownNumber(15).into();
+    assert_eq!(error.to_string(), "no refusal has the number 15");
 }
