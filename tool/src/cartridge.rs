@@ -1,7 +1,10 @@
-//! Cartridges as they are listed: bank by bank where there are more banks than the processor sees.
+//! Cartridges bank by bank, where there are more banks than the processor sees.
 
+use crate::arguments::Given;
+use crate::kind::Stretch;
 use crate::listing::{Asked, Part, Which};
-use crate::words;
+use crate::trouble::Trouble;
+use crate::{numbers, words};
 
 const BANK: usize = 16_384;
 
@@ -12,7 +15,7 @@ const TWO_BANKS: usize = 2 * BANK;
 const SWITCHED: u16 = 0x4000;
 
 /// No cartridge of these consoles has a higher one.
-pub const LAST_BANK: usize = 511;
+const LAST_BANK: usize = 511;
 
 pub const LARGEST: usize = (LAST_BANK + 1) * BANK;
 
@@ -26,10 +29,34 @@ impl Cartridge<'_> {
             (None, _) if self.0.len() <= TWO_BANKS => Part::new(self.0, 0).text(asked),
             (None, Which::All) => self.bank_by_bank(asked),
             (None, which) => {
-                self.keep_to_bank_0(which)?;
+                self.keep_to_bank_0(highest(which))?;
                 self.bank(0)?.text(asked)
             }
         }
+    }
+
+    /// The bytes that an address is to be one of: all of them, or those of one bank.
+    pub fn stretch(&self, address: u16, bank: Option<usize>) -> Result<Stretch, String> {
+        if bank.is_none() && self.0.len() <= TWO_BANKS {
+            return Ok(Stretch {
+                place: 0..self.0.len(),
+                first: 0,
+                whole: "the cartridge".to_string(),
+                of_many: false,
+            });
+        }
+        if bank.is_none() {
+            self.keep_to_bank_0(Some(usize::from(address)))?;
+        }
+        let number = bank.unwrap_or(0);
+        let part = self.bank(number)?;
+        let start = number * BANK;
+        Ok(Stretch {
+            place: start..start + part.length(),
+            first: part.first(),
+            whole: format!("bank {number}"),
+            of_many: true,
+        })
     }
 
     fn last_bank(&self) -> usize {
@@ -57,12 +84,7 @@ impl Cartridge<'_> {
     }
 
     /// An address above bank 0 is one in each of the others.
-    fn keep_to_bank_0(&self, which: &Which) -> Result<(), String> {
-        let asked = match which {
-            Which::All => None,
-            Which::Lines { from, .. } => from.map(usize::from),
-            Which::Bytes(ranges) => ranges.iter().map(|range| range.end - 1).max(),
-        };
+    fn keep_to_bank_0(&self, asked: Option<usize>) -> Result<(), String> {
         match asked {
             Some(address) if address >= usize::from(SWITCHED) => Err(format!(
                 "${address:04X} is not in bank 0; --bank says which of banks 1 to {} is meant",
@@ -71,6 +93,23 @@ impl Cartridge<'_> {
             _ => Ok(()),
         }
     }
+}
+
+/// The highest address that is asked for.
+fn highest(which: &Which) -> Option<usize> {
+    match which {
+        Which::All => None,
+        Which::Lines { from, .. } => from.map(usize::from),
+        Which::Bytes(ranges) => ranges.iter().map(|range| range.end - 1).max(),
+    }
+}
+
+/// The bank that an option names.
+pub fn asked_bank(given: &Given) -> Result<Option<usize>, Trouble> {
+    let number = given.value("--bank");
+    number
+        .map(|value| numbers::count("--bank", value, 0..=LAST_BANK))
+        .transpose()
 }
 
 /// Whether the length is one that cartridges have: up to two banks of any length, or whole banks.

@@ -9,6 +9,9 @@ use std::path::{Path, PathBuf};
 use crate::trouble::Trouble;
 use crate::{unix, words};
 
+/// Far more than any cartridge or any text about one has.
+pub const LARGEST: usize = 67_108_864;
+
 /// Which file it is, whatever its name.
 pub type Identity = (u64, u64);
 
@@ -32,6 +35,17 @@ impl Input {
             _ => ordinary_file(path)?,
         };
         Input::take(path, file, most).map_err(|error| Trouble::file(path, &error))
+    }
+
+    /// The same of a file that must have no more.
+    pub fn read_whole(path: &Path, most: usize) -> Result<Self, Trouble> {
+        let input = Input::read(path, most)?;
+        if input.bytes.len() > most {
+            let most = words::grouped(most as u64);
+            let words = format!("found {} bytes, wanted at most {most}", input.length);
+            return Err(Trouble::said(path, &words));
+        }
+        Ok(input)
     }
 
     fn take(path: &Path, file: File, most: usize) -> io::Result<Self> {

@@ -1,9 +1,12 @@
 //! What the proved core lists of some bytes: all of it, so many lines, or some addresses.
 
+use std::collections::BTreeSet;
 use std::ops::Range;
 
 use trnadulek::{listing, Edition};
 
+use crate::arguments::Given;
+use crate::trouble::Trouble;
 use crate::words;
 
 /// No instruction has more bytes.
@@ -73,6 +76,14 @@ impl<'a> Part<'a> {
         }
     }
 
+    pub fn length(&self) -> usize {
+        self.bytes.len()
+    }
+
+    pub fn first(&self) -> u16 {
+        self.first
+    }
+
     pub fn place(&self) -> String {
         let first = usize::from(self.first);
         words::place(first, first + self.bytes.len())
@@ -106,6 +117,49 @@ impl<'a> Part<'a> {
         let index = address.checked_sub(usize::from(self.first));
         let index = index.filter(|index| *index < self.bytes.len());
         index.ok_or_else(|| format!("there is no ${address:04X}, only {}", self.place()))
+    }
+}
+
+/// The lines of old bytes and of new ones in their place, of which so many differ. Both go on to where
+/// an instruction begins in the old ones and in the new: from there on they are the same.
+pub fn before_and_after(
+    old: &[u8],
+    new: &[u8],
+    count: usize,
+    first: u16,
+    edition: Edition,
+) -> (String, String) {
+    let (old, new) = (listing(old, first, edition), listing(new, first, edition));
+    let old_ends: BTreeSet<usize> = ends(&old).collect();
+    let in_step = ends(&new).find(|end| *end >= count && old_ends.contains(end));
+    let in_step = in_step.unwrap_or(count);
+    (until(&old, count, in_step), until(&new, count, in_step))
+}
+
+/// The lines of the bytes to an end, but only so many of them as are enough behind the first bytes.
+fn until(text: &str, first_bytes: usize, end: usize) -> String {
+    let all = ends(text).take_while(|next| *next <= end).count();
+    let most = ends(text).take_while(|next| *next < first_bytes).count() + 1 + ENOUGH;
+    let lines = text.split_inclusive('\n').take(all.min(most));
+    let more = if all > most { "..\n" } else { "" };
+    lines.chain([more]).collect()
+}
+
+/// How many bytes the lines of a text are for, to the end of each.
+fn ends(text: &str) -> impl Iterator<Item = usize> + '_ {
+    text.split_inclusive('\n').scan(0, |end, line| {
+        *end += byte_count(line);
+        Some(*end)
+    })
+}
+
+/// The edition by its name, in small letters alone: help and pages show no other way.
+pub fn asked_edition(given: &Given) -> Result<Edition, Trouble> {
+    match given.value("--edition") {
+        None => Ok(Edition::default()),
+        Some(value) if value == "old" => Ok(Edition::Old),
+        Some(value) if value == "new" => Ok(Edition::New),
+        Some(value) => Err(Trouble::wrong("--edition", value, "old or new")),
     }
 }
 

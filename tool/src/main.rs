@@ -4,10 +4,12 @@
 #![deny(unsafe_code)]
 
 mod arguments;
+mod assembling;
 mod cartridge;
 mod commands;
 mod differences;
 mod input;
+mod kind;
 mod listing;
 mod numbers;
 mod progress;

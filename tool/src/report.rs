@@ -48,8 +48,25 @@ impl Report {
         }
     }
 
+    /// The answer is no, and nothing was written.
+    pub fn refused(line: String) -> Self {
+        Report {
+            complaints: vec![format!("{line}; nothing was written")],
+            ..Report::answer(String::new(), Status::No)
+        }
+    }
+
+    /// With lines before what was written.
+    pub fn after(self, lines: &str) -> Self {
+        Report {
+            text: lines.to_string() + &self.text,
+            ..self
+        }
+    }
+
     /// What was written, for the end of another line.
     pub fn written(&self) -> Option<String> {
-        self.writes.then(|| format!("; {}", self.text.trim_end()))
+        let last = self.text.lines().last().unwrap_or_default();
+        self.writes.then(|| format!("; {last}"))
     }
 }

@@ -578,10 +578,13 @@ const WRONG_USE: [(&str, &str); 22] = [
         "list in --score 0 1",
         "--score is for show, judge, not for list",
     ),
-    ("show in --from 0", "--from is for list, not for show"),
+    (
+        "show in --from 0",
+        "--from is for list, assemble, not for show",
+    ),
     (
         "show in --edition old",
-        "--edition is for list, not for show",
+        "--edition is for list, patch, not for show",
     ),
     ("list in --edition", "--edition wants old or new"),
     (

@@ -1,16 +1,16 @@
 use std::path::Path;
 
-use trnadulek::{listing, load, Edition, Refusal, HEAD_SIZE, IMAGE_SIZE, MEMORY_SIZE};
+use trnadulek::{listing, Edition};
 
 use super::Command;
 use crate::arguments::Given;
-use crate::cartridge::{self, Cartridge};
-use crate::input::Input;
-use crate::listing::{Asked, Part, Which, ENOUGH};
+use crate::cartridge::asked_bank;
+use crate::input::{Input, LARGEST};
+use crate::kind::Kind;
+use crate::listing::{asked_edition, Which, ENOUGH};
 use crate::report::{Report, Status};
-use crate::saved::Saved;
 use crate::trouble::Trouble;
-use crate::{numbers, refused, target, words};
+use crate::{numbers, target, words};
 
 pub const COMMAND: Command = Command {
     name: "list",
@@ -40,9 +40,6 @@ bank by bank. FILE is known by its length; --dump FILE or --cartridge FILE say w
     writes: false,
     carry_out,
 };
-
-/// Far more than any cartridge has.
-const LARGEST_PART: usize = 67_108_864;
 
 const MOST_LINES: usize = 65_536;
 
@@ -90,94 +87,15 @@ impl<'a> Source<'a> {
     }
 
     fn text(&self, given: &Given) -> Result<String, Trouble> {
-        let edition = edition(given)?;
-        let read = match self.said {
-            Some("--part") => return part(self.file, given, edition),
-            Some("--dump") => Kind::dump,
-            Some(_) => Kind::cartridge,
-            None => Kind::known_by_length,
-        };
-        let (which, bank) = (which(given)?, bank(given)?);
-        let text = read(self.file)?.text(which, bank, edition);
+        let edition = asked_edition(given)?;
+        if self.said == Some("--part") {
+            return part(self.file, given, edition);
+        }
+        let (which, bank) = (which(given)?, asked_bank(given)?);
+        let kind = Kind::read(self.file, self.said, "--cartridge or --part")?;
+        let text = kind.text(which, bank, edition);
         text.map_err(|words| Trouble::said(self.file, &words))
     }
-}
-
-/// What a file is.
-enum Kind {
-    Image(Saved),
-    Dump(Input),
-    Cartridge(Input),
-}
-
-impl Kind {
-    fn dump(file: &Path) -> Result<Self, Trouble> {
-        let input = Input::read(file, MEMORY_SIZE)?;
-        if input.bytes.len() == MEMORY_SIZE {
-            return Ok(Kind::Dump(input));
-        }
-        let words = refused::as_memory(Refusal::MemoryLength, &input);
-        Err(Trouble::said(file, &words))
-    }
-
-    fn cartridge(file: &Path) -> Result<Self, Trouble> {
-        let input = Input::read(file, cartridge::LARGEST)?;
-        match input.bytes.len() {
-            1..=cartridge::LARGEST => Ok(Kind::Cartridge(input)),
-            _ => Err(Trouble::said(file, &cartridge::wrong_length(&input.length))),
-        }
-    }
-
-    fn known_by_length(file: &Path) -> Result<Self, Trouble> {
-        let input = Input::read(file, cartridge::LARGEST)?;
-        let kind = match input.bytes.len() {
-            IMAGE_SIZE => Saved::judged(input).map(Kind::Image),
-            MEMORY_SIZE if cartridge::says_four_banks(&input.bytes) => {
-                Err("a dump, or a cartridge of four banks; --dump or --cartridge says which".into())
-            }
-            MEMORY_SIZE => Ok(Kind::Dump(input)),
-            HEAD_SIZE if load(&input.bytes).is_ok() => {
-                Err("a head, and a head has no memory".into())
-            }
-            length if cartridge::is_length(length) => Ok(Kind::Cartridge(input)),
-            _ => Err(of_no_kind(&input)),
-        };
-        kind.map_err(|words| Trouble::said(file, &words))
-    }
-
-    /// The lines that are asked for, or else of an image some from PC and of all others all.
-    fn text(
-        &self,
-        which: Option<Which>,
-        bank: Option<usize>,
-        edition: Edition,
-    ) -> Result<String, String> {
-        let unasked = match self {
-            Kind::Image(_) => Which::Lines {
-                from: None,
-                count: ENOUGH,
-            },
-            _ => Which::All,
-        };
-        let asked = Asked {
-            which: which.unwrap_or(unasked),
-            edition,
-        };
-        match (self, bank) {
-            (Kind::Cartridge(input), _) => Cartridge(&input.bytes).text(&asked, bank),
-            (_, Some(_)) => Err("no cartridge, so it has no banks".to_string()),
-            (Kind::Dump(input), None) => Part::memory(&input.bytes, 0).text(&asked),
-            (Kind::Image(image), None) => Part::memory(image.memory(), image.cpu.pc).text(&asked),
-        }
-    }
-}
-
-fn of_no_kind(input: &Input) -> String {
-    format!(
-        "found {} bytes, wanted 65,559 for an image, 65,536 for a dump, or a cartridge of 1 to \
-         32,768 or of whole banks of 16,384; --cartridge or --part takes it as it is",
-        input.length
-    )
 }
 
 /// The lines that are asked for by an option.
@@ -205,23 +123,6 @@ fn from(given: &Given) -> Result<Option<u16>, Trouble> {
         .transpose()
 }
 
-fn bank(given: &Given) -> Result<Option<usize>, Trouble> {
-    let number = given.value("--bank");
-    number
-        .map(|value| numbers::count("--bank", value, 0..=cartridge::LAST_BANK))
-        .transpose()
-}
-
-/// The edition by its name, in small letters alone: help and pages show no other way.
-fn edition(given: &Given) -> Result<Edition, Trouble> {
-    match given.value("--edition") {
-        None => Ok(Edition::default()),
-        Some(value) if value == "old" => Ok(Edition::Old),
-        Some(value) if value == "new" => Ok(Edition::New),
-        Some(value) => Err(Trouble::wrong("--edition", value, "old or new")),
-    }
-}
-
 /// A file's bytes as they are, in the core's own text.
 fn part(file: &Path, given: &Given, edition: Edition) -> Result<String, Trouble> {
     let of_kinds = ["--lines", "--bytes", "--bank"];
@@ -231,11 +132,6 @@ fn part(file: &Path, given: &Given, edition: Edition) -> Result<String, Trouble>
     }
     let first = from(given)?
         .ok_or_else(|| Trouble::usage("--part wants --from too, the address of its first byte"))?;
-    let input = Input::read(file, LARGEST_PART)?;
-    if input.bytes.len() > LARGEST_PART {
-        let most = words::grouped(LARGEST_PART as u64);
-        let words = format!("found {} bytes, wanted at most {most}", input.length);
-        return Err(Trouble::said(file, &words));
-    }
+    let input = Input::read_whole(file, LARGEST)?;
     Ok(listing(&input.bytes, first, edition))
 }

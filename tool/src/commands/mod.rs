@@ -1,5 +1,6 @@
 //! The commands, one in each file.
 
+mod assemble;
 mod check;
 mod compare;
 mod export;
@@ -7,6 +8,7 @@ mod import;
 mod judge;
 mod list;
 mod make;
+mod patch;
 mod run;
 mod show;
 mod wake;
@@ -32,7 +34,7 @@ pub struct Command {
     carry_out: fn(Given) -> Result<Report, Trouble>,
 }
 
-const ALL: [Command; 10] = [
+const ALL: [Command; 12] = [
     make::COMMAND,
     show::COMMAND,
     check::COMMAND,
@@ -42,6 +44,8 @@ const ALL: [Command; 10] = [
     export::COMMAND,
     import::COMMAND,
     list::COMMAND,
+    assemble::COMMAND,
+    patch::COMMAND,
     wake::COMMAND,
 ];
 
@@ -54,7 +58,7 @@ numbers are decimal. An option's value can stand behind = too. After -- nothing 
 Exit status
   0  done; compare: the same, check: all valid, judge: all right, run: it came to its budget
   1  the answer is no; compare: they differ, check: one is refused, judge: one is not right,
-     run: ended by 3 or 4, its steps written
+     run: ended by 3 or 4, its steps written; assemble, patch: a line is refused, nothing written
   2  it could not be done: not understood, a file that cannot be read or written, a refused input
 The last line says what was written and what was not.
 ";
