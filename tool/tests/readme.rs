@@ -13,7 +13,8 @@ fn the_readme_tells_the_truth() {
         1, 0, 0, 0, 14, 0, 0, 0, 0, 0, 0, 0, 0, 0, 0, 0, 0, 0, 0, 0, 1, 0, 0,
     ];
     bench.put("stops.img", &image(&zero, &memory(&[(0, &stop)])));
-    assert_eq!(holds(include_str!("../README.md"), &bench), 18);
+    bench.put("credit.txt", b"SCF\n");
+    assert_eq!(holds(include_str!("../README.md"), &bench), 22);
 }
 
 /// The commands of docs/scores.md: two units that disagree about 199 and 1.
@@ -133,5 +134,60 @@ fn the_table_of_operands_tells_the_truth() {
         let listed = bench.tool("list --part part --from 0159").done();
         assert!(listed.ends_with(&format!(" {spelling}\n")), "{listed}");
         assert!(page.contains(&format!("`{spelling}`")), "{spelling}");
+    }
+}
+
+/// The commands of docs/patching.md.
+#[test]
+fn the_page_about_patches_tells_the_truth() {
+    let bench = Bench::new("patches");
+    bench.put("game.gb", &game());
+    bench.put("four.gb", &four_banks());
+    bench.put("lives.txt", b"LD A,3\nLDH [$FF80],A\nRET\n");
+    bench.put("wrong.txt", b"LD A,3\nLDH [$FF80],A\nLD A,300\nRET\n");
+    bench.put("windows.txt", b"LD A,3\r\n");
+    bench.put("clear.txt", b"XOR A,A\n");
+    bench.put("clear3.txt", b"XOR A,A\nNOP\nNOP\n");
+    bench.put("three.txt", b"LD A,4\n");
+    assert_eq!(holds(include_str!("../../docs/patching.md"), &bench), 19);
+}
+
+/// Every line that the page's tables have in a cell before bytes, or before the number of a refusal,
+/// gives that at $0150.
+#[test]
+fn the_tables_about_patches_tell_the_truth() {
+    let bench = Bench::new("patch-tables");
+    let page = include_str!("../../docs/patching.md");
+    let mut told = 0;
+    for row in page.lines().filter(|line| line.starts_with('|')) {
+        let cells: Vec<&str> = row.split('|').map(str::trim).collect();
+        for pair in cells.windows(2).filter(|pair| gives(pair[1])) {
+            let text = pair[0].trim_matches('`');
+            bench.put("text", format!("{text}\n").as_bytes());
+            assert_eq!(given_by(&bench), pair[1].trim_matches('`'), "{text}");
+            told += 1;
+        }
+    }
+    assert_eq!(told, 10 + 16 + 42);
+}
+
+/// Whether a cell says what a line gives: bytes, or a number.
+fn gives(cell: &str) -> bool {
+    let digits = cell.trim_matches('`');
+    let bytes = digits != cell && digits.len() % 2 == 0;
+    let digit = |digit: char| digit.is_ascii_digit() || ('A'..='F').contains(&digit);
+    (bytes || ["12", "14"].contains(&cell)) && !digits.is_empty() && digits.chars().all(digit)
+}
+
+/// The bytes of the file `text` at $0150, or the number that it is refused with.
+fn given_by(bench: &Bench) -> String {
+    let answer = bench.tool("assemble text out --from 0150 --replace");
+    match answer.err.split_once("line 1: refusal ") {
+        Some((_, said)) => said.split(':').next().unwrap().to_string(),
+        None => {
+            answer.done();
+            let bytes = bench.get("out");
+            bytes.iter().map(|byte| format!("{byte:02X}")).collect()
+        }
     }
 }

@@ -227,16 +227,17 @@ pub fn not_possible(test: &str, why: &str) {
     let _ = writeln!(io::stderr(), "not possible here: {test}: {why}");
 }
 
-/// The examples of a page, each `$ trnadulek-tool` line with what it prints, say what stands there.
-/// How many there were.
+/// The examples of a page, each line behind a `$` with what it prints, say what stands there. How
+/// many of them there were.
 #[track_caller]
 pub fn holds(page: &str, bench: &Bench) -> usize {
     let (mut expected, mut said, mut calls) = (String::new(), String::new(), 0);
     let shown = page.lines().filter_map(|line| line.strip_prefix("    "));
     for line in shown.skip_while(|line| !line.starts_with("$ ")) {
         expected.push_str(&format!("{line}\n"));
-        if let Some(call) = line.strip_prefix("$ trnadulek-tool ") {
-            let answer = bench.shell(&format!("\"$TOOL\" {call} 2>&1"));
+        if let Some(call) = line.strip_prefix("$ ") {
+            let call = call.replace("trnadulek-tool", "\"$TOOL\"");
+            let answer = bench.shell(&format!("{call} 2>&1"));
             said.push_str(&format!("{line}\n{}", answer.out));
             calls += 1;
         }
