@@ -83,9 +83,9 @@ static void words(void)
     words_of(TRNADULEK_STATE_CODE, "IME code above 2, or mode code above 3");
     words_of(TRNADULEK_ROOM, "output too short");
     words_of(TRNADULEK_EDITION, "edition number is neither 1 nor 2");
-    words_of(TRNADULEK_LINE, "the line has no such form");
-    words_of(TRNADULEK_NESTING, "parentheses are nested deeper than 16");
-    words_of(TRNADULEK_RANGE, "a number or a value is out of range");
+    words_of(TRNADULEK_LINE, "a line of no such form");
+    words_of(TRNADULEK_NESTING, "nesting deeper than 16");
+    words_of(TRNADULEK_RANGE, "number or value out of range");
     for (code = TRNADULEK_RANGE + 1; code <= UINT8_MAX; code++) {
         words_with_room((uint8_t)code, "", 50);
         text_of((uint8_t)code, "");

@@ -12,7 +12,7 @@ use crate::refusal::Refusal;
 ///
 /// let fault = assemble(b"NOP\nLD A,256\n", 0x0150, &mut [0; 9]).unwrap_err();
 /// assert_eq!(fault, Fault { line: 2, refusal: Refusal::Range });
-/// assert_eq!(fault.to_string(), "line 2: a number or a value is out of range");
+/// assert_eq!(fault.to_string(), "line 2: number or value out of range");
 /// ```
 #[derive(Clone, Copy, PartialEq, Eq, Hash, Debug)]
 pub struct Fault {

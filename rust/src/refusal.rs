@@ -39,11 +39,11 @@ pub enum Refusal {
     Room,
     /// 11: edition number is neither 1 nor 2.
     Edition,
-    /// 12: the line has no such form.
+    /// 12: a line of no such form.
     Line,
-    /// 13: parentheses are nested deeper than 16.
+    /// 13: nesting deeper than 16.
     Nesting,
-    /// 14: a number or a value is out of range.
+    /// 14: number or value out of range.
     Range,
 }
 

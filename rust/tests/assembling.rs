@@ -283,7 +283,7 @@ fn there_and_back() {
 fn a_fault_is_an_error_with_its_line() {
     let fault = assembled(b"NOP\nNOP", 0).unwrap_err();
     let error: Box<dyn Error> = fault.into();
-    assert_eq!(error.to_string(), "line 2: the line has no such form");
+    assert_eq!(error.to_string(), "line 2: a line of no such form");
     let refusal = error.source().unwrap();
-    assert_eq!(refusal.to_string(), "the line has no such form");
+    assert_eq!(refusal.to_string(), "a line of no such form");
 }

@@ -17,9 +17,9 @@ fn every_refusal_has_its_number_and_words() {
         (9, "IME code above 2, or mode code above 3"),
         (10, "output too short"),
         (11, "edition number is neither 1 nor 2"),
-        (12, "the line has no such form"),
-        (13, "parentheses are nested deeper than 16"),
-        (14, "a number or a value is out of range"),
+        (12, "a line of no such form"),
+        (13, "nesting deeper than 16"),
+        (14, "number or value out of range"),
     ];
     let told = Refusal::ALL.map(|refusal| (refusal.number(), refusal.to_string()));
     assert_eq!(

@@ -95,7 +95,7 @@ fn a_text_by_standard_input() {
     assert_eq!(bench.get("out"), ADDING);
     is_refused(
         bench.fed("assemble - new --from 0", b"NOP\nRET"),
-        "standard input: line 2: refusal 12: the line has no such form; found \"RET\" and no line feed",
+        "standard input: line 2: refusal 12: a line of no such form; found \"RET\" and no line feed",
     );
     bench.fed("patch in - put --at C000", b"RET\n").done();
     assert_eq!(bench.get("put")[23 + 0xC000], 0xC9);
@@ -128,68 +128,68 @@ fn a_listing_s_spellings_give_its_bytes_back() {
 const FAULTS: [(&[u8], &str); 16] = [
     (
         b"NOP\nNOP\nld a,5\nNOP\n",
-        "line 3: refusal 12: the line has no such form; found \"ld a,5\"",
+        "line 3: refusal 12: a line of no such form; found \"ld a,5\"",
     ),
     (
         b"NOP\nNOP\nLD A,256\nld a,5\n",
-        "line 3: refusal 14: a number or a value is out of range; found \"LD A,256\"",
+        "line 3: refusal 14: number or value out of range; found \"LD A,256\"",
     ),
     (
         b"NOP\nBIT (((((((((((((((((5))))))))))))))))),A\n",
-        "line 2: refusal 13: parentheses are nested deeper than 16; \
+        "line 2: refusal 13: nesting deeper than 16; \
          found \"BIT (((((((((((((((((5))))))))))))))))),A\"",
     ),
     (
         b"LD A,5",
-        "line 1: refusal 12: the line has no such form; found \"LD A,5\" and no line feed",
+        "line 1: refusal 12: a line of no such form; found \"LD A,5\" and no line feed",
     ),
     (
         b"NOP\n\nNOP\n",
-        "line 2: refusal 12: the line has no such form; found \"\"",
+        "line 2: refusal 12: a line of no such form; found \"\"",
     ),
     (
         b"NOP\r\n",
-        "line 1: refusal 12: the line has no such form; found \"NOP\\r\"",
+        "line 1: refusal 12: a line of no such form; found \"NOP\\r\"",
     ),
     (
         b"LD A, 5\n",
-        "line 1: refusal 12: the line has no such form; found \"LD A, 5\"",
+        "line 1: refusal 12: a line of no such form; found \"LD A, 5\"",
     ),
     (
         b"LD\tA,5 \n",
-        "line 1: refusal 12: the line has no such form; found \"LD\\tA,5 \"",
+        "line 1: refusal 12: a line of no such form; found \"LD\\tA,5 \"",
     ),
     (
         b"NOP ; \"wait\"\n",
-        "line 1: refusal 12: the line has no such form; found \"NOP ; \\\"wait\\\"\"",
+        "line 1: refusal 12: a line of no such form; found \"NOP ; \\\"wait\\\"\"",
     ),
     (
         b"0150 00 NOP\n",
-        "line 1: refusal 12: the line has no such form; found \"0150 00 NOP\"",
+        "line 1: refusal 12: a line of no such form; found \"0150 00 NOP\"",
     ),
     (
         b"LD A,\xC2\xA05\n\0",
-        "line 1: refusal 12: the line has no such form; found \"LD A,\\xc2\\xa05\"",
+        "line 1: refusal 12: a line of no such form; found \"LD A,\\xc2\\xa05\"",
     ),
     (
         b"LD HL,SP-5\n",
-        "line 1: refusal 12: the line has no such form; found \"LD HL,SP-5\"",
+        "line 1: refusal 12: a line of no such form; found \"LD HL,SP-5\"",
     ),
     (
         b"LDH [$80],A\n",
-        "line 1: refusal 14: a number or a value is out of range; found \"LDH [$80],A\"",
+        "line 1: refusal 14: number or value out of range; found \"LDH [$80],A\"",
     ),
     (
         b"JR $C082\n",
-        "line 1: refusal 14: a number or a value is out of range; found \"JR $C082\"",
+        "line 1: refusal 14: number or value out of range; found \"JR $C082\"",
     ),
     (
         b"LD A,65536-65530\n",
-        "line 1: refusal 14: a number or a value is out of range; found \"LD A,65536-65530\"",
+        "line 1: refusal 14: number or value out of range; found \"LD A,65536-65530\"",
     ),
     (
         b"ABCDEFGHIJ ABCDEFGHIJ ABCDEFGHIJ ABCDEFGHIJ ABCDEFGHIJ ABCDEFGHIJ ABCDEFGHIJ ABCDEFGHIJ\n",
-        "line 1: refusal 12: the line has no such form; found \
+        "line 1: refusal 12: a line of no such form; found \
          \"ABCDEFGHIJ ABCDEFGHIJ ABCDEFGHIJ ABCDEFGHIJ ABCDEFGHIJ ABCDEFGHIJ ABCDEFGHIJ ABC..\"",
     ),
 ];

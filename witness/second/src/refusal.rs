@@ -31,9 +31,9 @@ pub fn sentence(code: u8) -> &'static str {
         STATE_CODE => "IME code above 2, or mode code above 3",
         ROOM => "output too short",
         EDITION => "edition number is neither 1 nor 2",
-        LINE => "the line has no such form",
-        NESTING => "parentheses are nested deeper than 16",
-        RANGE => "a number or a value is out of range",
+        LINE => "a line of no such form",
+        NESTING => "nesting deeper than 16",
+        RANGE => "number or value out of range",
         _ => "no such refusal number",
     }
 }

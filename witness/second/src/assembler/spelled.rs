@@ -45,7 +45,7 @@ impl Spelled {
         }
     }
 
-    /// The bytes at an address; nothing where a number or a value is out of range.
+    /// The bytes at an address; nothing where a number or the value is out of range.
     pub fn bytes(&self, address: u16) -> Option<Vec<u8>> {
         match *self {
             Alone(byte) => Some(vec![byte]),
