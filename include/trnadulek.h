@@ -55,10 +55,10 @@
  * 10,000 times the first number, 100 times the second, and the third.
  */
 #define TRNADULEK_VERSION_MAJOR 0
-#define TRNADULEK_VERSION_MINOR 5
+#define TRNADULEK_VERSION_MINOR 6
 #define TRNADULEK_VERSION_PATCH 0
-#define TRNADULEK_VERSION_NUMBER 500u
-#define TRNADULEK_VERSION_STRING "0.5.0"
+#define TRNADULEK_VERSION_NUMBER 600u
+#define TRNADULEK_VERSION_STRING "0.6.0"
 
 /* The sizes. trnadulek_size answers them too. */
 #define TRNADULEK_HEAD_SIZE 23u
@@ -98,9 +98,9 @@ enum trnadulek_code {
     TRNADULEK_STATE_CODE = 9,    /* IME code above 2, or mode code above 3 */
     TRNADULEK_ROOM = 10,         /* output too short */
     TRNADULEK_EDITION = 11,      /* edition number is neither 1 nor 2 */
-    TRNADULEK_LINE = 12,         /* the line has no such form */
-    TRNADULEK_NESTING = 13,      /* parentheses are nested deeper than 16 */
-    TRNADULEK_RANGE = 14         /* a number or a value is out of range */
+    TRNADULEK_LINE = 12,         /* a line of no such form */
+    TRNADULEK_NESTING = 13,      /* nesting deeper than 16 */
+    TRNADULEK_RANGE = 14         /* number or value out of range */
 };
 
 /*

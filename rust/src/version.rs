@@ -1,7 +1,7 @@
 use crate::link;
 
 /// The version that this crate was written for, as [`version`] counts.
-pub const VERSION: u32 = 500;
+pub const VERSION: u32 = 600;
 
 /// The version of the library that is linked: 10,000 times the major number, 100 times the minor
 /// one and the patch. A host that compares it with [`VERSION`] at its start knows that the crate and
