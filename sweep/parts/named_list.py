@@ -15,6 +15,12 @@ LINE_OF = "listing/specs/Lines.antt"
 LISTED = "listing/specs/Answer.antt"
 SPELLED = "listing/specs/Spelling.antt"
 LIST = "listing/src/lib.rt"
+FORM = "constants/src/forms.rt"
+TOTALS = "constants/src/totals.rt"
+RANGES = "assembler/src/ranges.rt"
+TEXTS = "assembler/src/texts.rt"
+VERDICTS = "assembler/specs/Lines.antt"
+OUTCOMES = "assembler/specs/Text.antt"
 ELEVEN = "11 when not (eqb edition 1 || eqb edition 2)"
 
 EASY = [
@@ -214,6 +220,56 @@ EDITIONS = [
     ),
 ]
 
+ASSEMBLER = [
+    Change("a nesting of 17 is taken", (FORM, "const DEEPEST: usize = 16;", "const DEEPEST: usize = 17;")),
+    Change(
+        "a malformed constant that nests too deep is 13",
+        (FORM, "if ends(stand) & (opened == 0) {", "if (ends(stand) & (opened == 0)) | deep {"),
+    ),
+    Change("a bracket that is not closed is taken", (FORM, "if ends(stand) & (opened == 0) {", "if ends(stand) & (opened <= 1) {")),
+    Change("a number of many digits wraps", ("constants/src/numbers.rt", "{ 65_536 }", "{ more % 65_536 }")),
+    Change("a sum on the way wraps", (TOTALS, "up: total.up + 1,", "up: total.up,")),
+    Change("a difference on the way wraps", (TOTALS, "down: total.down + 1,", "down: total.down,")),
+    Change("a minus negates the whole constant", ("constants/src/sums.rt", "let sign = text[at];", "let sign = text[from];")),
+    Change(
+        "a minus before a bracket is lost",
+        ("constants/src/sums.rt", "depth - 1, below, total", "depth - 1, negative, total"),
+    ),
+    Change("a number of 65,536 is taken", (TOTALS, "if number >= 65_536 {", "if number >= 65_537 {")),
+    Change("n8 256 is taken", (RANGES, "Slot::N8 => 255,", "Slot::N8 => 256,")),
+    Change("e8 128 is taken", (RANGES, "Slot::E8 => 127,", "Slot::E8 => 128,")),
+    Change("JR reaches 128", (RANGES, "(n <= 127)", "(n <= 128)")),
+    Change("JR reaches 129 back", (RANGES, "(65408 <= n)", "(65407 <= n)")),
+    Change("LDH takes an address below $FF00", (RANGES, "0xFF00 <= n", "0xFE00 <= n")),
+    Change("a vector that is no multiple of 8 is taken", (RANGES, "n % 8 == 0", "n % 4 == 0")),
+    Change(
+        "14 comes before 13",
+        (VERDICTS, "verdictBy a row slot Deep = Fault 13", "verdictBy a row slot Deep = Fault 14"),
+        (VERDICTS, "verdictBy a row slot Large = Fault 14", "verdictBy a row slot Large = Fault 13"),
+    ),
+    Change("a line of no form is 13", (VERDICTS, "verdictBy a row slot NoForm = Fault 12", "verdictBy a row slot NoForm = Fault 13")),
+    Change(
+        "a later line's fault comes first",
+        (OUTCOMES, "lineOutcome line room (Fault n) rest = Refused n line", "lineOutcome line room (Fault n) rest = rest 0"),
+    ),
+    Change("lines are numbered from 0", (TEXTS, "Measured::AtFault(code, above + 1)", "Measured::AtFault(code, above)")),
+    Change(
+        "the output is written before a fault is known",
+        (OUTCOMES, "length = 0 }; out = out }", "length = 0 }; out = [] ++ drop 1 out }"),
+    ),
+    Change(
+        "an output one byte too short is taken",
+        (OUTCOMES, "outcomeIf (ltb room (length bytes)) line", "outcomeIf (ltb (suc room) (length bytes)) line"),
+    ),
+    Change("a line without its newline is taken", (TEXTS, "if end < text.len() {", "if end <= text.len() {")),
+    Change("a line's address stays the first", (OUTCOMES, "rest (further k a) (line + 1)", "rest a (line + 1)")),
+    Change("every line is assembled at the front", (TEXTS, "writing::code(code, at, out)", "writing::code(code, 0, out)")),
+    Change("LDIO is taken for the other way round", ("spellings/src/rows.rt", "return 0xF0;", "return 0xE0;")),
+    Change("[HLI] is taken for [HLD]", ("spellings/src/rows.rt", "[HLI][HLD]NZ", "[HLD][HLI]NZ")),
+    Change("a bracket does not begin a constant", ("spellings/src/places.rt", "(c == b'(')", "(c == b')')")),
+    Change("the high byte comes first", ("spellings/specs/Bytes.antt", "(lowOf n ∷ highOf n ∷ [])", "(highOf n ∷ lowOf n ∷ [])")),
+]
+
 CHEATS = [
     Change(
         "a step refuses every memory",
@@ -256,6 +312,8 @@ CHEATS = [
         (LINES, "Listed { code: 0, length }", "Listed { code: 0, length: 0 }"),
         (LINES, "code: 10,", "code: 0,"),
     ),
+    Change("an assembly always answers 12", ("assembler/src/lines.rt", "if row == NO_ROW {", "if row == row {")),
+    Change("an assembly always answers that it is done", ("assembler/src/lib.rt", "            code,\n            line,", "            code: 0,\n            line: 0,")),
     Change("two rows of the listing's table are exchanged", (FORMS, "DI......EI......", "EI......DI......")),
     Change("a listing has DB for everything", (READ, "(form == kinds::DATA)", "(form == form)")),
     Change("a listing has DB for everything, by the definition", (LINE_OF, "lineIf (isData bytes) e a bytes", "lineIf true e a bytes")),
@@ -266,5 +324,6 @@ GROUPS = {
     "instructions and refusals": INSTRUCTIONS,
     "the listing": LISTING,
     "the editions of the listing": EDITIONS,
+    "the assembler": ASSEMBLER,
     "cheats": CHEATS,
 }
