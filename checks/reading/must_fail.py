@@ -1,4 +1,4 @@
-"""The must-fail edits of a crate: what each teaches, whose promise it would break, and what it changes."""
+"""The must-fail edits of a crate: what each teaches, whose promise it would break or which theorem, and what it changes."""
 from dataclasses import dataclass, field
 
 
@@ -9,6 +9,7 @@ class MustFail:
     file: str  # the file's name without its ending
     teaches: str
     promise: str  # a public function, or nothing
+    theorem: str = ""  # or a law whose statement is changed
     places: list = field(default_factory=list)  # each a file of the crate and the text in it that is changed
 
 
@@ -25,6 +26,9 @@ def in_file(path):
         word, _, rest = line.partition(" ")
         if line.startswith("# promise: "):
             found.append(MustFail(path.stem, comment, line.removeprefix("# promise: ")))
+            fresh = False
+        elif line.startswith("# theorem: "):
+            found.append(MustFail(path.stem, comment, "", line.removeprefix("# theorem: ")))
             fresh = False
         elif word == "#":
             comment, fresh = rest, True
