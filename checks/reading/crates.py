@@ -81,7 +81,7 @@ def laws(name, wanted, root=ROOT):
 
 def types(text):
     """The types of a crate's first file: without its modules and its functions."""
-    text = re.sub(r"^(pub )?mod \w+;\n", "", text, flags=re.M)
+    text = re.sub(r"^(pub )?mod \w+;\n|^use \w+::[a-z_]+;\n", "", text, flags=re.M)
     return re.sub(r"^(?://.*\n)*(?:pub )?fn (?:.*\n)*?\}\n\n?", "", text, flags=re.M)
 
 
@@ -92,13 +92,30 @@ def called(top, crates, root):
     return whole | {name for one in whole for name in called(one, crates, root)}
 
 
-def copy_under(folder, top, root=ROOT, whole=None):
+def cut(source, target, kept):
+    """A crate's types and definitions, and these laws."""
+    shutil.copytree(source / "specs", target / "specs")
+    (target / "src").mkdir()
+    (target / "src/lib.rt").write_text(types((source / "src/lib.rt").read_text()))
+    if kept:
+        (target / "proofs").mkdir()
+        (target / "proofs/Lib.antt").write_text("".join(f"pub mod {file}\n" for file in kept))
+        for file, text in kept.items():
+            (target / "proofs" / f"{file}.antt").write_text(text)
+
+
+def copy_under(folder, top, root=ROOT, whole=None, theorems=None):
     """A copy of a crate with what it stands on: whole where its code calls functions there, and else the types, the
-    definitions and the laws that are cited."""
+    definitions and the laws that are cited. With theorems, {file: names}, the crate itself is cut to these."""
     crates = listed(root)
-    entire = called(top, crates, root) if whole is None else set(whole)
-    shutil.copytree(root / "crates" / top, folder / "crates" / top)
-    texts = [path.read_text() for path in (root / "crates" / top).glob("**/*.antt")]
+    if theorems:
+        kept = laws(top, theorems, root)
+        cut(root / "crates" / top, folder / "crates" / top, kept)
+        entire, texts = set(), [*kept.values(), *(path.read_text() for path in (root / "crates" / top / "specs").glob("*.antt"))]
+    else:
+        entire = called(top, crates, root) if whole is None else set(whole)
+        shutil.copytree(root / "crates" / top, folder / "crates" / top)
+        texts = [path.read_text() for path in (root / "crates" / top).glob("**/*.antt")]
     under = [name for name in crates if name in below(top, crates)]
     for name in reversed(under):
         source, target = root / "crates" / name, folder / "crates" / name
@@ -106,14 +123,7 @@ def copy_under(folder, top, root=ROOT, whole=None):
             shutil.copytree(source, target)
             texts += [path.read_text() for path in source.glob("**/*.antt")]
             continue
-        shutil.copytree(source / "specs", target / "specs")
-        (target / "src").mkdir()
-        (target / "src/lib.rt").write_text(types((source / "src/lib.rt").read_text()))
         kept = laws(name, cited(texts, f"Rattle\\.{name}\\.proofs"), root)
+        cut(source, target, kept)
         texts += kept.values()
-        if kept:
-            (target / "proofs").mkdir()
-            (target / "proofs/Lib.antt").write_text("".join(f"pub mod {file}\n" for file in kept))
-            for file, text in kept.items():
-                (target / "proofs" / f"{file}.antt").write_text(text)
     write_list(folder, {top, *under}, root)

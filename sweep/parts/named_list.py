@@ -21,6 +21,7 @@ RANGES = "assembler/src/ranges.rt"
 TEXTS = "assembler/src/texts.rt"
 VERDICTS = "assembler/specs/Lines.antt"
 OUTCOMES = "assembler/specs/Text.antt"
+CODED = "spellings/specs/Bytes.antt"
 ELEVEN = "11 when not (eqb edition 1 || eqb edition 2)"
 
 EASY = [
@@ -267,7 +268,12 @@ ASSEMBLER = [
     Change("LDIO is taken for the other way round", ("spellings/src/rows.rt", "return 0xF0;", "return 0xE0;")),
     Change("[HLI] is taken for [HLD]", ("spellings/src/rows.rt", "[HLI][HLD]NZ", "[HLD][HLI]NZ")),
     Change("a bracket does not begin a constant", ("spellings/src/places.rt", "(c == b'(')", "(c == b')')")),
-    Change("the high byte comes first", ("spellings/specs/Bytes.antt", "(lowOf n ∷ highOf n ∷ [])", "(highOf n ∷ lowOf n ∷ [])")),
+    Change("a bracket does not end a constant", ("spellings/specs/Outline.antt", "eqb c 44 || eqb c 93", "eqb c 44 || eqb c 91")),
+    Change("a bit's number is four rows apart", (CODED, "rowBytes (row + 8 * n)", "rowBytes (row + 4 * n)")),
+    Change("the prefix is left out", (CODED, "(0xCB ∷ (row - 256) ∷ [])", "((row - 256) ∷ [])")),
+    Change("STOP has one byte", (CODED, "(0x10 ∷ 0x00 ∷ [])", "(0x10 ∷ [])")),
+    Change("a vector is a bit's number", ("spellings/specs/Rows.antt", "slotOf vec = Vec", "slotOf vec = U3")),
+    Change("the high byte comes first", (CODED, "(lowOf n ∷ highOf n ∷ [])", "(highOf n ∷ lowOf n ∷ [])")),
 ]
 
 CHEATS = [
