@@ -229,8 +229,8 @@ ASSEMBLER = [
     ),
     Change("a bracket that is not closed is taken", (FORM, "if ends(stand) & (opened == 0) {", "if ends(stand) & (opened <= 1) {")),
     Change("a number of many digits wraps", ("constants/src/numbers.rt", "{ 65_536 }", "{ more % 65_536 }")),
-    Change("a sum on the way wraps", (TOTALS, "up: total.up + 1,", "up: total.up,")),
-    Change("a difference on the way wraps", (TOTALS, "down: total.down + 1,", "down: total.down,")),
+    Change("a sum on the way wraps", (TOTALS, "up: total.up + 1,", "up: total.up + 0,")),
+    Change("a difference on the way wraps", (TOTALS, "down: total.down + 1,", "down: total.down + 0,")),
     Change("a minus negates the whole constant", ("constants/src/sums.rt", "let sign = text[at];", "let sign = text[from];")),
     Change(
         "a minus before a bracket is lost",
@@ -253,14 +253,14 @@ ASSEMBLER = [
         "a later line's fault comes first",
         (OUTCOMES, "lineOutcome line room (Fault n) rest = Refused n line", "lineOutcome line room (Fault n) rest = rest 0"),
     ),
-    Change("lines are numbered from 0", (TEXTS, "Measured::AtFault(code, above + 1)", "Measured::AtFault(code, above)")),
+    Change("lines are numbered from 0", (TEXTS, "Measured::AtFault(code, above + 1)", "Measured::AtFault(code, above + 0)")),
     Change(
         "the output is written before a fault is known",
         (OUTCOMES, "length = 0 }; out = out }", "length = 0 }; out = [] ++ drop 1 out }"),
     ),
     Change(
         "an output one byte too short is taken",
-        (OUTCOMES, "outcomeIf (ltb room (length bytes)) line", "outcomeIf (ltb (suc room) (length bytes)) line"),
+        (OUTCOMES, "outcomeIf (ltb room (length bytes)) line", "outcomeIf (ltb (room + 1) (length bytes)) line"),
     ),
     Change("a line without its newline is taken", (TEXTS, "if end < text.len() {", "if end <= text.len() {")),
     Change("a line's address stays the first", (OUTCOMES, "rest (further k a) (line + 1)", "rest a (line + 1)")),
