@@ -107,8 +107,10 @@ def weighed(place, words):
 
 def own(text, crate, function):
     """The verdict on one function of a check that failed: by the errors in its own proof, of which none may be of form, or, where
-    it has no proof file, by what is left open of it."""
-    found = [(place, words) for place, words in errors(text) if f"/proofs/{function.replace('::', '/')}/Proof.antt:" in place]
+    it has no proof file, by what is left open of it. One that calls itself has a + before its name there."""
+    *folders, name = function.split("::")
+    files = ["/".join(["", "proofs", *folders, f"{sign}{name}", "Proof.antt:"]) for sign in ("", "+")]
+    found = [(place, words) for place, words in errors(text) if any(file in place for file in files)]
     for place, words in sorted(found, key=lambda error: weighed(*error) != "unfit"):
         return Answer(weighed(place, words), place, words, 0)
     left = re.search(rf"^fn {crate}::{function}: no proof: .*`search` does not close (.*)$", text, re.M)
