@@ -13,10 +13,10 @@ use Rattle.arith.specs.Words.{further}
 use Rattle.digits.specs.Ascii.{newline}
 use Rattle.listing.specs.Forms as texts
 use Rattle.spellings.specs.Outline.{upTo, onFrom}
+use Rattle.spellings.proofs.Fallen.{before-cut, behind-cut}
 use Rattle.assembler.specs.Lines.{Fault, verdictOf}
 use Rattle.assembler.specs.Text.{before, textIf, textOf, Refused, lineOutcome, leftOutcome, outcomeFrom}
 use Rattle.assembler.specs.Judging.{isNewline, headVerdict, outcomeOn}
-use Rattle.assembler.proofs.Parts.{cut, take-front, drop-front}
 
 -- the line, and what is left behind its newline
 abbrev pub lineIn : List ℕ → List ℕ
@@ -45,14 +45,10 @@ begins (c ∷ cs) = more-if (eqb c newline) c cs refl (begins cs)
 
 -- its place in a text
 pub line-taken : (text : List ℕ) → take (length (lineIn text)) text ≡ lineIn text
-line-taken text =
-    ap (take (length (lineIn text))) (sym (cut isNewline text)) ∙ take-front (lineIn text) (onFrom isNewline text)
+line-taken text = before-cut isNewline text
 
 pub behind-dropped : (text : List ℕ) → drop (length (lineIn text) + 1) text ≡ behindLine text
-behind-dropped text =
-    sym (drop-drop 1 (length (lineIn text)) text)
-    ∙ ap (λ (xs : List ℕ). drop 1 (drop (length (lineIn text)) xs)) (sym (cut isNewline text))
-    ∙ ap (drop 1) (drop-front (lineIn text) (onFrom isNewline text))
+behind-dropped text = sym (drop-drop 1 (length (lineIn text)) text) ∙ ap (drop 1) (behind-cut isNewline text)
 
 -- the verdict of the first line, and what comes of the text
 pub head-whole : (a : ℕ) (text : List ℕ) → length (lineIn text) < length text → headVerdict a (textOf text .lines) ≡ verdictOf a (lineIn text)

@@ -1,7 +1,7 @@
 -- A line has at most as many bytes as characters, its newline counted; so as many bytes of room as a text has characters are enough.
 -- Assumes nothing.
-use Prim.Native.Nat.{ℕ, _+_, _-_, _<_, _≤_}
-use mathlib.Core.Bool.{Bool, true, false, _||_, _&&_}
+use Prim.Native.Nat.{ℕ, _+_, _-_, _≤_}
+use mathlib.Core.Bool.{Bool, true, false, _||_}
 use mathlib.Core.List.{List, [], _∷_, _++_}
 use mathlib.Core.Logic.{_≢_}
 use mathlib.Core.Path.{_≡_, refl, sym, _∙_, ap}
@@ -20,8 +20,8 @@ use Rattle.spellings.specs.Outline.{beforeIn, constantIn, behindIn, marked, out
 use Rattle.spellings.specs.Rows.{unprefixed, prefixed, table, rowBy, noRow, same}
 use Rattle.spellings.specs.declared.Slot.{Slot}
 use Rattle.spellings.proofs.Outline.{parts-join}
-use Rattle.assembler.specs.Lines.{Verdict, Fault, Bytes, foundIn, verdictIf, valuedBy, verdictBy, verdictOf}
-use Rattle.assembler.specs.Text.{Text, before, textIf, textOf, outcomeOf}
+use Rattle.assembler.specs.Lines.{Fault, Bytes, foundIn, verdictIf, valuedBy, verdictBy, verdictOf}
+use Rattle.assembler.specs.Text.{Text, before, textIf, textOf}
 use Rattle.assembler.specs.Judging.{headVerdict}
 use Rattle.assembler.specs.Faults.{GoodLines, no-line, a-line, FaultIn, own, no-room, FaultBehind, in-line, in-rest, Enough}
 use Rattle.assembler.proofs.Back.{allHave, row-has}

@@ -2,7 +2,7 @@
 -- vec in the instruction reference, edition 001.
 -- Assumes nothing.
 use Prim.Native.Nat.{ℕ, _%_}
-use mathlib.Core.Bool.{Bool, true, false, _||_}
+use mathlib.Core.Bool.{Bool, true, _||_}
 use lib.Dec.{eqb, leb}
 use Rattle.arith.specs.Words.{back}
 use Rattle.spellings.specs.declared.Slot.{Slot}
