@@ -1,18 +1,20 @@
 """Has the prover judge an edit: quickly in a prepared copy, and from nothing in a fresh one."""
 import filecmp
+import os
 import pathlib
 import shutil
 import tempfile
 
-from reading import crates, prepared, prover
+from reading import crates, prover
 
 
-class Prepared(prepared.Prepared):
-    """A copy that is made anew where the sources have changed."""
+class Prepared:
+    """A copy of a crate and of what it stands on, proved once, in which an edit costs what the edit touches."""
 
     def __init__(self, folder, crate, root):
-        super().__init__(folder / crate, crate)
-        self.root = root
+        self.folder, self.crate, self.root = folder / crate, crate, root
+        self.built = self.folder / "target/inc" / crate
+        self.kept = self.folder / "kept"
 
     def fresh(self):
         """A copy of the sources as they are now; what was built from those that are the same stays."""
@@ -30,12 +32,23 @@ class Prepared(prepared.Prepared):
         return True
 
     def ready(self):
-        """Proves the copy as it stands, unless that is done."""
+        """Proves the copy as it stands, and keeps what the quick check goes on from."""
         if not self.fresh() and self.kept.exists():
             return
-        answer = self.prove()
+        answer = self.check()
         if answer.verdict != "proved":
             raise SystemExit(f"sweep: {self.crate} is not proved as it stands: {answer.line()}")
+        shutil.rmtree(self.kept, ignore_errors=True)
+        shutil.copytree(self.built, self.kept, copy_function=os.link)
+
+    def check(self):
+        return prover.judge(*prover.run(["rt", "dev", self.crate], self.folder))
+
+    def judge(self, edit):
+        shutil.rmtree(self.built, ignore_errors=True)
+        shutil.copytree(self.kept, self.built, copy_function=os.link)
+        with edit.made(self.folder / "crates"):
+            return self.check()
 
 
 def same(one, two):
