@@ -1,4 +1,5 @@
 // The assembler: lines of spelling in either edition as bytes. Nothing here knows the processor's state.
+#![tactic(auto)]
 mod lines;
 mod ranges;
 mod texts;
@@ -9,7 +10,7 @@ ghost use Rattle.assembler.specs.Text.{Assembles, assemble_of};
 use spellings::Code;
 
 // What is answered: a code, the number of the first line at fault, and the length that was written.
-#[derive(Drop)]
+#[derive(Clone, Copy)]
 pub struct Assembled {
     pub code: u8,
     pub line: usize,
@@ -17,14 +18,14 @@ pub struct Assembled {
 }
 
 // What a line is: at fault, or its bytes.
-#[derive(Drop)]
+#[derive(Clone, Copy)]
 enum Judged {
     Faulty(u8),
     Takes(Code),
 }
 
 // What a text is: refused, with the line, or so many bytes.
-#[derive(Drop)]
+#[derive(Clone, Copy)]
 enum Measured {
     AtFault(u8, usize),
     Fits(usize),

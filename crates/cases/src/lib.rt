@@ -1,1 +1,2 @@
 // Cases of the definition that are computed: no code of its own.
+#![tactic(auto)]

@@ -1,4 +1,5 @@
 // Constants as text: terms joined by + or -, numbers and parentheses.
+#![tactic(auto)]
 mod chars;
 mod forms;
 mod numbers;
@@ -10,7 +11,7 @@ ghost use Rattle.constants.specs.Answer.{found_of};
 
 // What a text is: no constant; one whose parentheses are nested too deep; one with a number or a value out of range; or one whose value
 // is so far above 0 or below it.
-#[derive(Drop)]
+#[derive(Clone, Copy)]
 pub enum Found {
     NoForm,
     Deep,
@@ -21,7 +22,7 @@ pub enum Found {
 
 // Where a reading stands: a term is to come, which a minus may stand before; a term is to come; behind a $; in the digits of a
 // hexadecimal number, and of a decimal one; behind a closed parenthesis; or no constant begins so.
-#[derive(Drop)]
+#[derive(Clone, Copy)]
 enum Stand {
     Start,
     Next,
@@ -33,7 +34,7 @@ enum Stand {
 }
 
 // Of what form a text is: no constant, one that is nested too deep, or one that is not.
-#[derive(Drop)]
+#[derive(Clone, Copy)]
 enum Form {
     Wrong,
     TooDeep,
@@ -41,7 +42,7 @@ enum Form {
 }
 
 // A number: the place behind it, and its value, or 65,536 for any above 65,535.
-#[derive(Drop)]
+#[derive(Clone, Copy)]
 struct Numeral {
     at: usize,
     value: u32,
@@ -49,7 +50,7 @@ struct Numeral {
 
 // A total of numbers, with no limit: 65,536 times the difference of up and down, and low, which is below 65,536. Large says that there
 // was a number above 65,535, which is not in it.
-#[derive(Drop)]
+#[derive(Clone, Copy)]
 struct Total {
     up: u64,
     down: u64,
@@ -58,7 +59,7 @@ struct Total {
 }
 
 // A sum: the place behind it, and the total with it.
-#[derive(Drop)]
+#[derive(Clone, Copy)]
 struct Sum {
     at: usize,
     total: Total,

@@ -1,3 +1,4 @@
 // Digits in any base: numbers of bytes, and the glyphs that numbers are written with.
+#![tactic(auto)]
 pub mod glyphs;
 pub mod numbers;

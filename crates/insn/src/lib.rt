@@ -1,4 +1,5 @@
 // Instructions: what each byte of a program means. Nothing here knows the processor's state or the memory.
+#![tactic(auto)]
 use arith::{Alu, Rot};
 
 pub mod decode;
@@ -7,7 +8,7 @@ mod rows;
 pub mod table;
 
 // The registers of eight bits that an operand can be.
-#[derive(Drop)]
+#[derive(Clone, Copy)]
 pub enum Register {
     B,
     C,
@@ -19,7 +20,7 @@ pub enum Register {
 }
 
 // An operand: a register, the byte at HL, or a constant carried with it.
-#[derive(Drop)]
+#[derive(Clone, Copy)]
 pub enum Operand {
     Reg(Register),
     AtHl,
@@ -27,7 +28,7 @@ pub enum Operand {
 }
 
 // A place that a byte can be put into: a register or the byte at HL.
-#[derive(Drop)]
+#[derive(Clone, Copy)]
 pub enum Place {
     B,
     C,
@@ -40,7 +41,7 @@ pub enum Place {
 }
 
 // The pairs that count and add.
-#[derive(Drop)]
+#[derive(Clone, Copy)]
 pub enum Pair {
     Bc,
     De,
@@ -49,7 +50,7 @@ pub enum Pair {
 }
 
 // The pairs that go on the stack.
-#[derive(Drop)]
+#[derive(Clone, Copy)]
 pub enum Stacked {
     Bc,
     De,
@@ -58,7 +59,7 @@ pub enum Stacked {
 }
 
 // The pairs that A is stored and loaded through; the last two move HL on or back.
-#[derive(Drop)]
+#[derive(Clone, Copy)]
 pub enum Pointer {
     Bc,
     De,
@@ -67,7 +68,7 @@ pub enum Pointer {
 }
 
 // The conditions of jumps, calls and returns.
-#[derive(Drop)]
+#[derive(Clone, Copy)]
 pub enum Cond {
     Nz,
     Z,
@@ -77,7 +78,7 @@ pub enum Cond {
 
 // The instructions, in the grid's order; the names say what each does where the reference's are short. What an instruction
 // changes is a place, what it only reads an operand.
-#[derive(Drop)]
+#[derive(Clone, Copy)]
 pub enum Insn {
     Nop,
     StoreSp(u16),
@@ -131,7 +132,7 @@ pub enum Insn {
 
 // An instruction with the number of bytes after its first, and its cycles where no branch is taken.
 // An undefined one has no cycles.
-#[derive(Drop)]
+#[derive(Clone, Copy)]
 pub struct Decoded {
     pub insn: Insn,
     pub more: u16,

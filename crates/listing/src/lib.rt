@@ -1,4 +1,5 @@
 // The listing: bytes as text, one line an instruction. Nothing here knows the processor's state.
+#![tactic(auto)]
 mod forms;
 mod kinds;
 mod lines;
@@ -9,14 +10,14 @@ ghost use Rattle.std.specs.Prelude.{◌≡◌};
 ghost use Rattle.listing.specs.Answer.{Lists, edition_of, list_of};
 
 // What is answered: a code, and the length of the text that was written.
-#[derive(Drop)]
+#[derive(Clone, Copy)]
 pub struct Listed {
     pub code: u8,
     pub length: usize,
 }
 
 // An edition of the instruction reference, whose spelling is used: 1 is the old one and 2 the new one.
-#[derive(Drop)]
+#[derive(Clone, Copy)]
 pub enum Edition {
     Old,
     New,
@@ -24,7 +25,7 @@ pub enum Edition {
 
 // What the marks of a form stand for: the edition that names, the byte whose fields name registers, the byte and the word after the
 // opcode, and the address of the next instruction.
-#[derive(Drop)]
+#[derive(Clone, Copy)]
 struct Operands {
     edition: Edition,
     op: u8,
@@ -34,7 +35,7 @@ struct Operands {
 }
 
 // What a line reads: its form, how many bytes it has, and its operands.
-#[derive(Drop)]
+#[derive(Clone, Copy)]
 struct Reading {
     form: usize,
     bytes: usize,
@@ -42,14 +43,14 @@ struct Reading {
 }
 
 // How far a line has come: the place in the output behind it, and how many bytes it has.
-#[derive(Drop)]
+#[derive(Clone, Copy)]
 struct Put {
     at: usize,
     bytes: usize,
 }
 
 // The length of a whole text, or that there is no room for it.
-#[derive(Drop)]
+#[derive(Clone, Copy)]
 enum Measured {
     Fits(usize),
     TooLong,

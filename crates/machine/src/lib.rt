@@ -1,4 +1,5 @@
 // The machine: the processor's state by value, the memory lent, one step and a budgeted run.
+#![tactic(auto)]
 mod execute;
 mod interrupts;
 mod jumps;
@@ -20,7 +21,7 @@ pub const MEMORY_SIZE: usize = 65536;
 pub const LARGEST_BUDGET: u32 = 1048576;
 
 // The interrupt switch: Off 0, Arming 1, On 2.
-#[derive(Drop)]
+#[derive(Clone, Copy)]
 pub enum Ime {
     Off,
     Arming,
@@ -28,7 +29,7 @@ pub enum Ime {
 }
 
 // Running 0, Repeat 1, Halted 2, Stopped 3.
-#[derive(Drop)]
+#[derive(Clone, Copy)]
 pub enum Mode {
     Running,
     Repeat,
@@ -37,7 +38,7 @@ pub enum Mode {
 }
 
 // The processor's state. An operation takes it by value and hands the next state back.
-#[derive(Drop)]
+#[derive(Clone, Copy)]
 pub struct Cpu {
     pub a: u8,
     pub f: u8,
@@ -54,14 +55,14 @@ pub struct Cpu {
 }
 
 // An instruction that is done: the state after it, and the cycles that a taken branch costs more.
-#[derive(Drop)]
+#[derive(Clone, Copy)]
 pub struct Done {
     pub cpu: Cpu,
     pub extra: u8,
 }
 
 // A step: its code, its cycles and the next state.
-#[derive(Drop)]
+#[derive(Clone, Copy)]
 pub struct Stepped {
     pub code: u8,
     pub cycles: u8,
@@ -69,7 +70,7 @@ pub struct Stepped {
 }
 
 // A run: its code, the cycles spent, the steps taken and the state at its end.
-#[derive(Drop)]
+#[derive(Clone, Copy)]
 pub struct Ran {
     pub code: u8,
     pub spent: u32,

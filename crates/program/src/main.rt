@@ -1,5 +1,6 @@
 // Document 01's program: a budget, a head and a memory from standard input, two lines to standard output. Where the input cannot be
 // read or the output not be written, a line on standard error says so.
+#![tactic(auto)]
 use libc::{STDERR_FILENO, STDIN_FILENO, STDOUT_FILENO};
 use text::answer;
 

@@ -1,4 +1,5 @@
 // The saved state: a head of 23 bytes, and an image of 65,559, which is a head and the memory after it.
+#![tactic(auto)]
 pub mod block;
 pub mod codes;
 mod head;
@@ -12,7 +13,7 @@ ghost use Rattle.saved.specs.Answers.{load_of, load_head_of, open_of, MemoryOf, 
 use machine::{Cpu, MEMORY_SIZE};
 
 // What a load answers: its code, and the state, which is all zero where the code is not 0.
-#[derive(Drop)]
+#[derive(Clone, Copy)]
 pub struct Loaded {
     pub code: u8,
     pub cpu: Cpu,

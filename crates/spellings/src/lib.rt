@@ -1,4 +1,5 @@
 // The way back from a spelling: its row in the table and where its constant stands, and the bytes of a row with a number.
+#![tactic(auto)]
 mod codes;
 mod outlines;
 mod places;
@@ -12,7 +13,7 @@ ghost use Rattle.spellings.specs.Bytes.{bytes_of, coded};
 use arith::words;
 
 // What a constant may be, where there is one.
-#[derive(Drop)]
+#[derive(Clone, Copy)]
 pub enum Slot {
     Bare,
     N8,
@@ -25,7 +26,7 @@ pub enum Slot {
 }
 
 // What a line is: its row, 513 where it has none, what its constant may be, and where that begins and ends.
-#[derive(Drop)]
+#[derive(Clone, Copy)]
 pub struct Form {
     pub row: u16,
     pub slot: Slot,
@@ -34,7 +35,7 @@ pub struct Form {
 }
 
 // Bytes by value: how many, and three of them.
-#[derive(Drop)]
+#[derive(Clone, Copy)]
 pub struct Code {
     pub count: usize,
     pub first: u8,
@@ -43,7 +44,7 @@ pub struct Code {
 }
 
 // What is sought in a text: a character that begins a constant, one that ends it, or a certain one.
-#[derive(Drop)]
+#[derive(Clone, Copy)]
 enum Sought {
     Beginning,
     End,

@@ -1,4 +1,5 @@
 // The program's input and output: from the bytes it reads to the two lines it prints.
+#![tactic(auto)]
 pub mod answer;
 mod writing;
 

@@ -1,6 +1,7 @@
 // The core for a host in another language: numbers and lent bytes in, a refusal number out. The live state is a state block, 14
 // bytes; a head is the 23 bytes of a saved state, with its block inside. No function asks anything of its caller or keeps anything
 // between two calls.
+#![tactic(auto)]
 mod wording;
 
 ghost use Rattle.std.specs.Prelude.{◌≡◌};
