@@ -1,5 +1,6 @@
 // Instructions: what each byte of a program means. Nothing here knows the processor's state or the memory.
 #![tactic(auto)]
+
 use arith::{Alu, Rot};
 
 pub mod decode;

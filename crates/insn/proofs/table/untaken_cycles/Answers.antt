@@ -7,13 +7,12 @@ use Rattle.insn.specs.Table.{rows, untaken_of}
 use Rattle.insn.proofs.Entries.{tabulated}
 use Rattle.insn.proofs.Told.{entries}
 use Rattle.insn.proofs.Laws.{untaken_above}
-use Rattle.insn.proofs.table.untaken_cycles.Statement.{statement}
-use Rattle.insn.proofs.table.untaken_cycles.Tie as tie
+use Rattle.insn.proofs.table.untaken_cycles.Goals as goal
 
-pub untaken_cycles_spec : {M : Type 1} → statement M
+pub returns-then-row-lt512 : goal.returns-then-row-lt512
 unfolding entries rows
-untaken_cycles_spec =
-    tie.close (tie.spec
-    (search rules)
-    (λ c. tabulated untaken_of 0 512 c.before.args.row (omega arith))
-    (λ c. sym (untaken_above c.before.args.row (omega arith))))
+returns-then-row-lt512 c = tabulated untaken_of 0 512 c.args.row (omega arith)
+
+pub returns-else-row-lt512 : goal.returns-else-row-lt512
+unfolding entries rows
+returns-else-row-lt512 c = sym (untaken_above c.args.row (omega arith))

@@ -7,13 +7,12 @@ use Rattle.insn.specs.Table.{rows, length_of}
 use Rattle.insn.proofs.Entries.{tabulated}
 use Rattle.insn.proofs.Told.{entries}
 use Rattle.insn.proofs.Laws.{length_above}
-use Rattle.insn.proofs.table.length.Statement.{statement}
-use Rattle.insn.proofs.table.length.Tie as tie
+use Rattle.insn.proofs.table.length.Goals as goal
 
-pub length_spec : {M : Type 1} → statement M
+pub returns-then-row-lt512 : goal.returns-then-row-lt512
 unfolding entries rows
-length_spec =
-    tie.close (tie.spec
-    (search rules)
-    (λ c. tabulated length_of 0 512 c.before.args.row (omega arith))
-    (λ c. sym (length_above c.before.args.row (omega arith))))
+returns-then-row-lt512 c = tabulated length_of 0 512 c.args.row (omega arith)
+
+pub returns-else-row-lt512 : goal.returns-else-row-lt512
+unfolding entries rows
+returns-else-row-lt512 c = sym (length_above c.args.row (omega arith))
