@@ -1,5 +1,6 @@
 // Constants as text: terms joined by + or -, numbers and parentheses.
 #![tactic(auto)]
+
 mod chars;
 mod forms;
 mod numbers;

@@ -5,7 +5,7 @@ ghost use Rattle.constants.specs.Sums.{Opens, Sums, goes_on, width_of, turned};
 use crate::{Sum, Total, chars, numbers, totals};
 
 // Neither the end nor a closed parenthesis stands at a place.
-fn goes_on_lem(text: &[u8], at: usize) -> bool
+fn goes_on(text: &[u8], at: usize) -> bool
     ensures { result ≡ goes_on (drop at text.now) }
 {
     if at < text.len() {
@@ -44,7 +44,7 @@ pub(crate) fn sum(text: &[u8], from: usize, depth: u8, negative: bool, total: To
 {
     let mut at = from;
     let mut total = total;
-    while goes_on_lem(text, at) {
+    while goes_on(text, at) {
         let sign = text[at];
         let below = turned_by(sign, negative);
         let first = at + sign_width(sign);

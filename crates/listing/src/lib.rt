@@ -1,5 +1,6 @@
 // The listing: bytes as text, one line an instruction. Nothing here knows the processor's state.
 #![tactic(auto)]
+
 mod forms;
 mod kinds;
 mod lines;

@@ -1,5 +1,6 @@
 // The machine: the processor's state by value, the memory lent, one step and a budgeted run.
 #![tactic(auto)]
+
 mod execute;
 mod interrupts;
 mod jumps;

@@ -1,4 +1,4 @@
--- `goes_on_lem` looks at the character here, if there is one.
+-- `goes_on` looks at the character here, if there is one.
 use borrow.Author.Rules.{rules}
 use lib.ListN.{drop_of_length-le}
 use lib.Seq.{drop-cons}

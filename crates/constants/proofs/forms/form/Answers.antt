@@ -1,0 +1,81 @@
+-- `form` reads from the left. The loop's invariant: the reading has come to a state, at which the code stands, and what is left makes of it
+-- what the whole text is.
+use Prim.Native.Nat.{ℕ, ◌+◌, ◌-◌, ◌≤◌, ◌<◌}
+use borrow.Author.Rules.{rules}
+use mathlib.Core.Bool.{Bool, true, false}
+use mathlib.Core.List.{List, []}
+use mathlib.Core.Path.{◌≡◌, refl, ap, ◌∙◌}
+use native.Mathlib.Numerals.{add-one}
+use native.Mathlib.Omega.{arith}
+use lib.Dec.{eqb}
+use lib.ListN.{length, get_or, drop, drop_of_length-le}
+use lib.Seq.{drop-cons}
+use Rattle.constants.specs.Reading.{State, Wants, Nothing, step, read_from, read_of}
+use Rattle.constants.specs.Forms.{StandsAt, stand_after, open_if, open_after, form_in, form_by}
+use Rattle.constants.specs.declared.Stand.{Stand}
+use Rattle.constants.specs.declared.Stand.TheVariants.{Start}
+use Rattle.constants.proofs.Nesting.{Tally, Tallies, wants_nests, pile_nests, behind_nests, deep_after, step_tally}
+use Rattle.constants.proofs.Standing.{step_stands, finished_stands}
+use Rattle.constants.proofs.forms.form.Goals as goal
+
+record Reached (text : List ℕ) (stand : Stand) (opened : ℕ) (deep : Bool) (at : ℕ) : Type 0 where
+  state : State
+  stands : StandsAt state stand
+  tally : Tally state opened deep
+  reads : read_from state (drop at text) ≡ read_of text
+
+abbrev invariant_loop : tie.invariant-loop
+invariant_loop text stand₀ opened₀ deep₀ at₀ stand opened deep at =
+    (at ≤ length text) × (opened ≤ at) × Reached text stand opened deep at
+
+abbrev decreases_loop : tie.decreases-loop
+decreases_loop text stand₀ opened₀ deep₀ at₀ stand opened deep at = length text - at
+
+-- one more character
+further : (text : List ℕ) (stand next : Stand) (opened : ℕ) (deep : Bool) (at : ℕ) → at < length text
+    → next ≡ stand_after stand (get_or text at 0) opened → Reached text stand opened deep at
+    → Reached text next (open_after (get_or text at 0) opened) (deep_after (get_or text at 0) opened deep) (at + 1)
+unfolding read_from
+further text stand next opened deep at h e r = record {
+  state = step r.state (get_or text at 0);
+  stands = rw e (step_stands r.state stand (get_or text at 0) opened deep r.stands r.tally);
+  tally = step_tally r.state (get_or text at 0) opened deep r.tally;
+  reads = rw (add-one at) (rw (drop-cons text at 0 h) at r.reads);
+}
+
+few_open : (opens closes : Bool) (opened at : ℕ) → opened ≤ at → open_if opens closes opened ≤ at + 1
+unfolding open_if
+few_open true closes opened at h = omega arith
+few_open false true opened at h = omega arith
+few_open false false opened at h = omega arith
+
+still_few : (c opened after at : ℕ) → after ≡ open_after c opened → opened ≤ at → after ≤ at + 1
+unfolding open_after
+still_few c opened after at e h = rw e (few_open (eqb c 40) _ opened at h)
+
+-- the whole text is read
+read_through : (text : List ℕ) (stand : Stand) (opened : ℕ) (deep : Bool) (at : ℕ) → length text ≤ at → Reached text stand opened deep at
+    → form_by stand opened deep ≡ form_in (read_of text)
+unfolding read_from
+read_through text stand opened deep at past r =
+    finished_stands r.state stand opened deep r.stands r.tally
+    ∙ ap form_in (rw (drop_of_length-le text {i = at} past) at r.reads)
+
+begins : (text : List ℕ) → Reached text Start 0 false 0
+unfolding StandsAt Tally Tallies wants_nests pile_nests behind_nests read_of
+begins text = record { state = Wants [] Nothing; stands = refl; tally = (refl, refl); reads = refl }
+
+pub loop-at-init : goal.loop-at-init
+loop-at-init c = (omega arith, omega arith, begins _)
+
+pub loop-at-preserved : goal.loop-at-preserved
+loop-at-preserved c =
+    let text = c.args.text.now in (
+      omega arith,
+      still_few _ _ _ _ c.Open-after.ensures c.loop-at.invariant.1,
+      rw c.Open-after.ensures (further text _ _ _ _ c.loop-at.at c.loop-at-test.true c.step-stand.ensures c.loop-at.invariant.2),
+    )
+
+pub returns : goal.returns
+returns c =
+    c.ended.ensures ∙ read_through _ _ _ _ c.loop-at.at c.loop-at-test.false c.loop-at.invariant.2

@@ -1,0 +1,11 @@
+-- `ld` writes its two letters.
+use borrow.Author.Rules.{rules}
+use mathlib.Core.List.{[], ◌∷◌}
+use Rattle.digits.specs.Ascii.{ascii}
+use Rattle.listing.proofs.Texts.{byte_text, then}
+use Rattle.listing.proofs.forms.ld.Goals as goal
+
+pub returns : goal.returns
+unfolding ascii
+returns c =
+    then (_ ∷ []) _ _ (byte_text _ _ c.push.ensures) (byte_text _ _ c.push-2.ensures)

@@ -1,0 +1,8 @@
+-- `adjust` meets its contract.
+use borrow.Author.Rules.{rules}
+use Rattle.machine.specs.Execute.{result_of}
+use Rattle.machine.proofs.Cpu.adjust.Goals as goal
+
+pub returns : goal.returns
+unfolding result_of
+returns c = simp c.adjust-r.ensures

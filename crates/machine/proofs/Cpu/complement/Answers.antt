@@ -1,0 +1,8 @@
+-- `complement` meets its contract.
+use borrow.Author.Rules.{rules}
+use Rattle.machine.specs.Execute.{complemented_of}
+use Rattle.machine.proofs.Cpu.complement.Goals as goal
+
+pub returns : goal.returns
+unfolding complemented_of
+returns c = simp (c.pack.ensures, c.carry.ensures, c.zero.ensures)

@@ -1,0 +1,6 @@
+-- `decrease_pair` meets its contract.
+use borrow.Author.Rules.{rules}
+use Rattle.machine.proofs.Cpu.decrease_pair.Goals as goal
+
+pub returns : goal.returns
+returns c = simp (c.with_pair.ensures, c.back.ensures, c.pair.ensures)

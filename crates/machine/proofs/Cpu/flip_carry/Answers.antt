@@ -1,0 +1,8 @@
+-- `flip_carry` meets its contract.
+use borrow.Author.Rules.{rules}
+use Rattle.machine.specs.Execute.{with_carry_of}
+use Rattle.machine.proofs.Cpu.flip_carry.Goals as goal
+
+pub returns : goal.returns
+unfolding with_carry_of
+returns c = simp (c.pack.ensures, c.carry.ensures, c.zero.ensures)

@@ -1,0 +1,6 @@
+-- `jump_hl` meets its contract.
+use borrow.Author.Rules.{rules}
+use Rattle.machine.proofs.Cpu.jump_hl.Goals as goal
+
+pub returns : goal.returns
+returns c = simp c.hl-to.ensures

@@ -1,0 +1,6 @@
+-- `load_at` meets its contract.
+use borrow.Author.Rules.{rules}
+use Rattle.machine.proofs.Cpu.load_at.Goals as goal
+
+pub returns : goal.returns
+returns c = simp (c.moved.ensures, c.load_from.ensures, c.pointed.ensures)

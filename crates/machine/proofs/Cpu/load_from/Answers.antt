@@ -1,0 +1,8 @@
+-- `load_from` meets its contract.
+use borrow.Author.Rules.{rules}
+use Rattle.machine.specs.Execute.{loaded_from}
+use Rattle.machine.proofs.Cpu.load_from.Goals as goal
+
+pub returns : goal.returns
+unfolding loaded_from
+returns c = simp c.read.ensures

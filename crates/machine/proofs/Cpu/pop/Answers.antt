@@ -1,0 +1,6 @@
+-- `pop` meets its contract.
+use borrow.Author.Rules.{rules}
+use Rattle.machine.proofs.Cpu.pop.Goals as goal
+
+pub returns : goal.returns
+returns c = simp (c.with_stacked.ensures, c.further.ensures, c.read_word-w.ensures)

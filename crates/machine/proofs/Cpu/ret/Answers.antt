@@ -1,0 +1,6 @@
+-- `ret` meets its contract.
+use borrow.Author.Rules.{rules}
+use Rattle.machine.proofs.Cpu.ret.Goals as goal
+
+pub returns : goal.returns
+returns c = simp (c.return_to.ensures, c.read_word.ensures)

@@ -1,0 +1,8 @@
+-- `vector` meets its contract.
+use borrow.Author.Rules.{rules}
+use Rattle.machine.specs.Interrupts.{vectored_of}
+use Rattle.machine.proofs.Cpu.vector.Goals as goal
+
+pub returns : goal.returns
+unfolding vectored_of
+returns c = simp c.back.ensures

@@ -1,0 +1,9 @@
+-- `store` meets its contract.
+use mathlib.Core.Path.{refl}
+use borrow.Author.Rules.{rules}
+use Rattle.machine.specs.Memory.{stored}
+use Rattle.machine.proofs.memory.store.Goals as goal
+
+pub returns : goal.returns
+unfolding stored
+returns c = refl

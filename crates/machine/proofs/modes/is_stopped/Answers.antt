@@ -1,0 +1,20 @@
+-- `is_stopped` meets its contract.
+use borrow.Author.Rules.{rules}
+use Rattle.machine.specs.Modes.{is_stopped}
+use Rattle.machine.proofs.modes.is_stopped.Goals as goal
+
+pub returns-in-Running : goal.returns-in-Running
+unfolding is_stopped
+returns-in-Running c = simp c.in-Running.is
+
+pub returns-in-Repeat : goal.returns-in-Repeat
+unfolding is_stopped
+returns-in-Repeat c = simp c.in-Repeat.is
+
+pub returns-in-Halted : goal.returns-in-Halted
+unfolding is_stopped
+returns-in-Halted c = simp c.in-Halted.is
+
+pub returns-in-Stopped : goal.returns-in-Stopped
+unfolding is_stopped
+returns-in-Stopped c = simp c.in-Stopped.is

@@ -1,0 +1,25 @@
+-- `run` meets its contract: refusals 1, 2 and 5 in their order, then the turns.
+use native.Mathlib.Omega.{arith}
+use Rattle.machine.proofs.Gives.{exactly}
+use Rattle.machine.proofs.Runs.{run_unfit, run_flags, run_budget, run_valid}
+use Rattle.machine.proofs.run.run.Goals as goal
+
+pub returns-then-mem-ne-MEMORY_SIZE : goal.returns-then-mem-ne-MEMORY_SIZE
+returns-then-mem-ne-MEMORY_SIZE c =
+    let a = c.args in
+    rw (run_unfit a.budget a.cpu a.mem.now c.if-mem-ne-MEMORY_SIZE.true, c.refused.ensures) exactly
+
+pub returns-then-cpu-ne0 : goal.returns-then-cpu-ne0
+returns-then-cpu-ne0 c =
+    let a = c.args in
+    rw (run_flags a.budget a.cpu a.mem.now (omega arith) c.if-cpu-ne0.true, c.refused-then-cpu-ne0.ensures) exactly
+
+pub returns-then-budget-gt-LARGEST_BUDGET : goal.returns-then-budget-gt-LARGEST_BUDGET
+returns-then-budget-gt-LARGEST_BUDGET c =
+    let a = c.args in
+    rw (run_budget a.budget a.cpu a.mem.now (omega arith) (omega arith) c.if-budget-gt-LARGEST_BUDGET.true, c.refused-then-budget-gt-LARGEST_BUDGET.ensures) exactly
+
+pub returns : goal.returns
+returns c =
+    let a = c.args in
+    rw (run_valid a.budget a.cpu a.mem.now (omega arith) (omega arith) (omega arith)) c.run_from.ensures

@@ -1,0 +1,6 @@
+-- `push_high` meets its contract.
+use borrow.Author.Rules.{rules}
+use Rattle.machine.proofs.stack.push_high.Goals as goal
+
+pub returns : goal.returns
+returns c = simp (c.store.ensures, c.high.ensures, c.back.ensures)

@@ -1,0 +1,6 @@
+-- `push_low` meets its contract.
+use borrow.Author.Rules.{rules}
+use Rattle.machine.proofs.stack.push_low.Goals as goal
+
+pub returns : goal.returns
+returns c = simp (c.store.ensures, c.low.ensures, c.back.ensures)
