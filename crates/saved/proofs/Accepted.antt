@@ -53,8 +53,8 @@ right_accepted size h r =
       eq-eqb _ _ r.version_is,
       eq-eqb _ _ r.block_is,
       eq-eqb _ _ r.memory_is,
-      r.has-codes,
-      eq-eqb _ _ r.flags-low,
+      r.has_codes,
+      eq-eqb _ _ r.flags_low,
     )
 
 -- saving
@@ -76,7 +76,7 @@ accepted_head_fits s h p =
 
 pub head_fits_accepted : (s : Cpu) (h : List ℕ) → HeadFits s h → Accepted (save_head_code s h)
 unfolding order save_head_code save_head_refusals flags_refusals
-head_fits_accepted s h r = rw (eq-eqb _ _ r.size_is, eq-eqb _ _ r.flags-low)
+head_fits_accepted s h r = rw (eq-eqb _ _ r.size_is, eq-eqb _ _ r.flags_low)
 
 pub accepted_image_fits : (s : Cpu) (m image : List ℕ) → Accepted (save_image_code s m image) → ImageFits s m image
 unfolding save_image_code save_image_refusals flags_refusals
@@ -86,4 +86,4 @@ accepted_image_fits s m image p =
 
 pub image_fits_accepted : (s : Cpu) (m image : List ℕ) → ImageFits s m image → Accepted (save_image_code s m image)
 unfolding order save_image_code save_image_refusals flags_refusals
-image_fits_accepted s m image r = rw (eq-eqb _ _ r.size_is, eq-eqb _ _ r.memory_is, eq-eqb _ _ r.flags-low)
+image_fits_accepted s m image r = rw (eq-eqb _ _ r.size_is, eq-eqb _ _ r.memory_is, eq-eqb _ _ r.flags_low)

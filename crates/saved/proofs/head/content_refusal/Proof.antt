@@ -54,7 +54,7 @@ returns_4 c =
       ← memory.number-at2.ensures,
       eq-eqb _ _ held.before.if3.false,
       ← held.block_in.ensures,
-      ← then.before.has-codes.ensures,
+      ← then.before.has_codes.ensures,
       then.if4.true,
     )
 
@@ -71,7 +71,7 @@ returns_5 c =
       ← memory.number-at2.ensures,
       eq-eqb _ _ held.before.if3.false,
       ← held.block_in.ensures,
-      ← c.before.has-codes.ensures,
+      ← c.before.has_codes.ensures,
       c.if4.false,
     )
 
