@@ -22,7 +22,7 @@ pub record Right (size : ℕ) (h : List ℕ) : Type 0 where
   pub version_is : version_in h ≡ version
   pub block_is : block_size_in h ≡ block_size
   pub memory_is : memory_size_in h ≡ memory_size
-  pub has_codes_lem : has_codes (block_in h) ≡ true
+  pub has_codes : has_codes (block_in h) ≡ true
   pub flags_low : flags_in (block_in h) % 16 ≡ 0
 
 -- a test of a refusal that does not hold
@@ -40,7 +40,7 @@ accepted_right size h p =
       version_is = is none.1.0;
       block_is = eqb-true _ _ lengths.0;
       memory_is = eqb-true _ _ lengths.1;
-      has_codes_lem = not-false _ none.1.1.1.0;
+      has_codes = not-false _ none.1.1.1.0;
       flags_low = is none.1.1.1.1.0;
     }
 

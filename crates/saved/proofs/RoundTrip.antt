@@ -45,7 +45,7 @@ module _ (s : Cpu) (behind : List ℕ) where
         version_is = refl;
         block_is = refl;
         memory_is = refl;
-        has_codes_lem = has_codes_lem s;
+        has_codes = has_codes_lem s;
         flags_low = rw (held_flags s) q;
       }
 
