@@ -1,15 +1,14 @@
 -- `form` reads from the left.
-use Prim.Native.Nat.{ℕ, ◌+◌, ◌-◌, ◌≤◌, ◌<◌}
-use borrow.Author.Rules.{rules}
+use Prim.Native.Nat.{ℕ, ◌+◌, ◌≤◌, ◌<◌}
 use mathlib.Core.Bool.{Bool, true, false}
 use mathlib.Core.List.{List, []}
 use mathlib.Core.Path.{◌≡◌, refl, ap, ◌∙◌}
 use native.Mathlib.Numerals.{add-one}
 use native.Mathlib.Omega.{arith}
 use lib.Dec.{eqb}
-use lib.ListN.{length, get_or, drop, drop_of_length-le}
+use lib.ListN.{length, get_or, drop_of_length-le}
 use lib.Seq.{drop-cons}
-use Rattle.constants.specs.Reading.{State, Wants, Nothing, step, read_from, read_of}
+use Rattle.constants.specs.Reading.{Wants, Nothing, step, read_from, read_of}
 use Rattle.constants.specs.Forms.{StandsAt, stand_after, open_if, open_after, form_in, form_by}
 use Rattle.constants.specs.declared.Stand.{Stand}
 use Rattle.constants.specs.declared.Stand.TheVariants.{Start}

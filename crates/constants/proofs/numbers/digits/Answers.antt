@@ -1,7 +1,5 @@
 -- `digits` takes digits while there are some.
-use Prim.Native.Nat.{ℕ, suc, ◌+◌, ◌*◌, ◌-◌, ◌≤◌, ◌<◌}
-use borrow.Author.Rules.{rules}
-use borrow.Author.Tests.{not-true, not-false}
+use Prim.Native.Nat.{ℕ, suc, ◌+◌, ◌*◌, ◌≤◌, ◌<◌}
 use mathlib.Core.Bool.{true, false}
 use mathlib.Core.List.{List, [], ◌∷◌, ◌++◌, append_assoc}
 use mathlib.Core.Path.{◌≡◌, refl, sym, ap, ◌∙◌}
@@ -12,7 +10,7 @@ use lib.ListN.{length, get_or, drop, drop_of_length-le, length-append}
 use lib.Seq.{drop-cons}
 use Rattle.digits.specs.Digits.{worth_of}
 use Rattle.constants.specs.Constant.{Base, Decimal, Hexadecimal, is_digit, all_digits, digit_of, base_of, worth}
-use Rattle.constants.specs.Sums.{base_if, clipped, NoDigit, Spans}
+use Rattle.constants.specs.Sums.{clipped, NoDigit, Spans}
 use Rattle.constants.specs.declared.Numeral.{Numeral}
 use Rattle.constants.proofs.Worth.{all_more, worth_clipped}
 use Rattle.constants.proofs.numbers.digits.Invariants.{Taken}

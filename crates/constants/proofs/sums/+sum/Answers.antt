@@ -1,9 +1,8 @@
 -- `sum` reads a level: a sign, where there is one, and a number, or a constant in parentheses by a call of itself.
-use borrow.Author.Rules.{rules}
 use mathlib.Core.Path.{sym, ◌∙◌}
 use native.Mathlib.Omega.{arith}
 use Rattle.constants.proofs.Levels.{begins, level_sums}
-use Rattle.constants.proofs.Terms.{here, place-within, depth-left, inner-opens, inner-level, number_at, number-level}
+use Rattle.constants.proofs.Terms.{here, place_within, depth_left, inner_opens, inner_level, number_at, number_level}
 use Rattle.constants.proofs.sums.+sum.Goals as goal
 
 pub loop-sign-init : goal.loop-sign-init
@@ -16,24 +15,24 @@ bounds-text-at t c = here c.requires c.loop-sign.invariant (sym c.goes_on.ensure
 pub overflow_add-first : goal.overflow_add-first
 overflow_add-first t c =
     let goes = sym c.goes_on.ensures ∙ c.loop-sign-test.true in
-    record { fits = rw c.sign_width.ensures (omega (arith, place-within c.requires c.loop-sign.invariant goes)) }
+    record { fits = rw c.sign_width.ensures (omega (arith, place_within c.requires c.loop-sign.invariant goes)) }
 
 pub bounds-text-first : goal.bounds-text-first
 bounds-text-first t c =
-    rw c.sign_width.ensures (place-within c.requires c.loop-sign.invariant (sym c.goes_on.ensures ∙ c.loop-sign-test.true))
+    rw c.sign_width.ensures (place_within c.requires c.loop-sign.invariant (sym c.goes_on.ensures ∙ c.loop-sign-test.true))
 
 -- a constant in parentheses
 pub overflow_sub-depth : goal.overflow_sub-depth
 overflow_sub-depth t c =
     let goes = sym c.goes_on.ensures ∙ c.loop-sign-test.true in
-    depth-left c.requires c.loop-sign.invariant goes (rw c.sign_width.ensures at c.if-text-first-eq-OPEN.true)
+    depth_left c.requires c.loop-sign.invariant goes (rw c.sign_width.ensures at c.if-text-first-eq-OPEN.true)
 
 pub sum-inner-requires : goal.sum-inner-requires
 sum-inner-requires t c =
     let goes = sym c.goes_on.ensures ∙ c.loop-sign-test.true in
     let opens = rw c.sign_width.ensures at c.if-text-first-eq-OPEN.true in (
-      omega (arith, depth-left c.requires c.loop-sign.invariant goes opens),
-      rw c.sign_width.ensures (inner-opens c.requires c.loop-sign.invariant goes opens),
+      omega (arith, depth_left c.requires c.loop-sign.invariant goes opens),
+      rw c.sign_width.ensures (inner_opens c.requires c.loop-sign.invariant goes opens),
     )
 
 pub loop-sign-preserved-then-text-first-eq-OPEN : goal.loop-sign-preserved-then-text-first-eq-OPEN
@@ -41,7 +40,7 @@ loop-sign-preserved-then-text-first-eq-OPEN t c =
     let goes = sym c.goes_on.ensures ∙ c.loop-sign-test.true in
     let opens = rw c.sign_width.ensures at c.if-text-first-eq-OPEN.true in
     let sums = rw c.sign_width.ensures at c.sum-inner.ensures in
-    inner-level c.requires c.loop-sign.invariant goes opens _ _ c.turned_by-below.ensures sums
+    inner_level c.requires c.loop-sign.invariant goes opens _ _ c.turned_by-below.ensures sums
 
 -- a number
 pub number-number-requires : goal.number-number-requires
@@ -54,7 +53,7 @@ pub loop-sign-preserved : goal.loop-sign-preserved
 loop-sign-preserved t c =
     let goes = sym c.goes_on.ensures ∙ c.loop-sign-test.true in
     let counts = rw c.sign_width.ensures at c.number-number.ensures in
-    number-level c.requires c.loop-sign.invariant goes _ _ _ c.turned_by-below.ensures counts c.with-total.ensures
+    number_level c.requires c.loop-sign.invariant goes _ _ _ c.turned_by-below.ensures counts c.with-total.ensures
 
 -- the level ends
 pub returns : goal.returns
