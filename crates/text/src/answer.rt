@@ -18,7 +18,7 @@ const LEAD_SIZE: usize = 27;
 
 // A text that begins with the header line.
 fn header() -> Text
-    ensures { result ≡ written Rattle.text.specs.Answer.header Rattle.text.specs.Written.emptyText }
+    ensures { result ≡ written Rattle.text.specs.Answer.header Rattle.text.specs.Written.empty_text }
 {
     Text::new().append(b"code spent steps AF BC DE HL SP PC ime mode\n")
 }

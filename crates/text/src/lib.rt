@@ -1,5 +1,6 @@
 // The program's input and output: from the bytes it reads to the two lines it prints.
 #![tactic(auto)]
+
 pub mod answer;
 mod writing;
 

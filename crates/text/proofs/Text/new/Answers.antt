@@ -1,0 +1,9 @@
+-- `new` meets its contract.
+use mathlib.Core.Path.{refl}
+use borrow.Author.Rules.{rules}
+use Rattle.text.specs.Written.{empty_text}
+use Rattle.text.proofs.Text.new.Goals as goal
+
+pub returns : goal.returns
+unfolding empty_text
+returns c = refl

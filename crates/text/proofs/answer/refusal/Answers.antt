@@ -1,0 +1,10 @@
+-- `refusal` meets its contract.
+use borrow.Author.Rules.{rules}
+use Rattle.text.specs.Answer.{refusal_line, printed}
+use Rattle.text.specs.Written.{written}
+use Rattle.text.proofs.Texts.{written_append}
+use Rattle.text.proofs.answer.refusal.Goals as goal
+
+pub returns : goal.returns
+unfolding refusal_line printed written
+returns c = simp (c.push.ensures, c.decimal.ensures, c.header.ensures, written_append)
