@@ -42,15 +42,15 @@ module _ (edition first : ℕ) (part out : List ℕ) where
   no_such_edition k = rw k
 
   module _ (known : (eqb edition 1 || eqb edition 2) ≡ true) where
-    pub by-room : list_of edition first part out ≡ list_into text out
+    pub by_room : list_of edition first part out ≡ list_into text out
     unfolding list_of list_by list_into list_unless list_refusals order
-    by-room = rw known
+    by_room = rw known
 
     pub refused : length out < length text → list_of edition first part out ≡ refused_by 10 out
-    refused h = rw by-room (into_short text out h)
+    refused h = rw by_room (into_short text out h)
 
     pub done : length text ≤ length out → list_of edition first part out ≡ done_with text out
-    done h = rw by-room (into_room text out h)
+    done h = rw by_room (into_room text out h)
 
     -- room of 19 characters for each byte is always enough
     pub enough : ByteList part → most_listed * length part ≤ length out → (list_of edition first part out).listed.code ≡ 0

@@ -115,6 +115,6 @@ module _ (e : Edition) (op n w next : ℕ) (h : op < 256) (hn : n < 256) (d : is
   pub insn_most : (line_length ≤ 26) × (line_length ≤ most_listed * (shape_of (decode_of op n w)).bytes)
   insn_most =
       let few = leb-true (long e op n w) 26 (insn_all e op n w h hn) in
-      let fewEach = leb-true (long e op n w) (most_listed * size e op n w) (rw d at (insn_each e op n w h hn)) in
+      let few_each = leb-true (long e op n w) (most_listed * size e op n w) (rw d at (insn_each e op n w h hn)) in
       let bound = spelling_most_lem next (spelling_in e op n w) in
       (omega arith, omega arith)

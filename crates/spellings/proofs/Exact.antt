@@ -66,12 +66,12 @@ row_spells line has =
     let some = row_some (outline_in line) has in
     let first = row_first (outline_in line) some in
     let f = first_of table (outline_in line) (λ e. has (first ∙ e)) in
-    let some-row : outline_of f.row.spelling ≢ [] = λ e. some (sym f.outlined ∙ e) in
-    let back = spelled_back f.row.spelling (row_told f.row f.listed some-row).well line (sym f.outlined) in
+    let some_row : outline_of f.row.spelling ≢ [] = λ e. some (sym f.outlined ∙ e) in
+    let back = spelled_back f.row.spelling (row_told f.row f.listed some_row).well line (sym f.outlined) in
     record {
       row = f.row;
       number = f.number ∙ sym first;
-      spells = record { listed = f.listed; some = some-row; takes = back.1; is = back.0 };
+      spells = record { listed = f.listed; some = some_row; takes = back.1; is = back.0 };
     }
 
 -- and where one does, the line has a row

@@ -90,25 +90,25 @@ module _ (text : List ℕ) (n : ℕ) (is : n ≡ 0 + length (up_to is_space text
       rw (some.2, rest, ap (λ k. take k text) space_at, before_cut is_space text)
 
   module _ (more : n ≢ length text) (m : ℕ) (at : m ≡ n + 1 + length (up_to is_comma (drop (n + 1) text))) where
-    comma-at : m - (n + 1) ≡ length (up_to is_comma (drop (n + 1) text))
-    comma-at = omega arith
+    comma_at : m - (n + 1) ≡ length (up_to is_comma (drop (n + 1) text))
+    comma_at = omega arith
 
-    first-operand : take (m - (n + 1)) (drop (n + 1) text) ≡ up_to is_comma (drop (n + 1) text)
-    first-operand = rw comma-at (before_cut is_comma (drop (n + 1) text))
+    first_operand : take (m - (n + 1)) (drop (n + 1) text) ≡ up_to is_comma (drop (n + 1) text)
+    first_operand = rw comma_at (before_cut is_comma (drop (n + 1) text))
 
     left : n + 1 ≤ length text → length (drop (n + 1) text) + (n + 1) ≡ length text
     left h = omega (arith, length-drop (n + 1) text)
 
-    pub single-row : n + 1 ≤ length text → m ≡ length text → row_by text ≡ single_row (name_in (take n text)) (operand_in (take (m - (n + 1)) (drop (n + 1) text)))
+    pub single_row_lem : n + 1 ≤ length text → m ≡ length text → row_by text ≡ single_row (name_in (take n text)) (operand_in (take (m - (n + 1)) (drop (n + 1) text)))
     unfolding operands_row
-    single-row h end =
+    single_row_lem h end =
         let whole : length (up_to is_comma (drop (n + 1) text)) ≡ length (drop (n + 1) text) = omega (arith, left h) in
-        sym (lookup_is text) ∙ behind_space more ∙ rw (nothing_behind is_comma (drop (n + 1) text) whole, first-operand)
+        sym (lookup_is text) ∙ behind_space more ∙ rw (nothing_behind is_comma (drop (n + 1) text) whole, first_operand)
 
-    pub double-row : m ≤ length text → m ≢ length text
+    pub double_row_lem : m ≤ length text → m ≢ length text
         → row_by text ≡ double_row (name_in (take n text)) (operand_in (take (m - (n + 1)) (drop (n + 1) text))) (operand_in (take (length text - (m + 1)) (drop (m + 1) text)))
     unfolding operands_row
-    double-row h more' =
+    double_row_lem h more' =
         let some = some_behind is_comma (drop (n + 1) text) (λ e. more' (omega (arith, left (omega arith)))) in
         let within : m + 1 ≤ length text = omega arith in
         let two : n + 1 + length (up_to is_comma (drop (n + 1) text)) ≡ m = omega arith in
@@ -117,27 +117,27 @@ module _ (text : List ℕ) (n : ℕ) (is : n ≡ 0 + length (up_to is_space text
         ∙ ap (drop 1) (sym (drop-drop (length (up_to is_comma (drop (n + 1) text))) (n + 1) text) ∙ behind_cut is_comma (drop (n + 1) text) ∙ some.2) in
         let all : take (length text - (m + 1)) (drop (m + 1) text) ≡ drop (m + 1) text =
         take_all (length text - (m + 1)) (drop (m + 1) text) (omega (arith, length-drop (m + 1) text)) in
-        sym (lookup_is text) ∙ behind_space more ∙ rw (some.2, all, rest, first-operand)
+        sym (lookup_is text) ∙ behind_space more ∙ rw (some.2, all, rest, first_operand)
 
 -- a line and its outline
-module _ (line : List ℕ) (from to : ℕ) (is-from : from ≡ length (before_in line)) (is-to : to ≡ from + length (constant_in line)) where
+module _ (line : List ℕ) (from to : ℕ) (is_from : from ≡ length (before_in line)) (is_to : to ≡ from + length (constant_in line)) where
   before_from : take from line ≡ before_in line
   unfolding before_in
-  before_from = rw is-from (before_cut begins line)
+  before_from = rw is_from (before_cut begins line)
 
   behind_to : drop to line ≡ behind_in line
   unfolding before_in constant_in behind_in
   behind_to =
-      ap (λ n. drop n line) is-to
+      ap (λ n. drop n line) is_to
       ∙ sym (drop-drop (length (constant_in line)) from line)
-      ∙ ap (drop (length (constant_in line))) (ap (λ n. drop n line) is-from ∙ behind_cut begins line)
+      ∙ ap (drop (length (constant_in line))) (ap (λ n. drop n line) is_from ∙ behind_cut begins line)
       ∙ behind_cut ends (on_from begins line)
 
   -- where no character begins a constant, the outline is the line
   pub outline_whole : from ≡ length line → outline_in line ≡ line
   unfolding before_in constant_in behind_in outline_in marked up_to on_from
   outline_whole end =
-      let whole = sym is-from ∙ end in
+      let whole = sym is_from ∙ end in
       rw (nothing_behind begins line whole, all_before begins line whole, append-nil line)
 
   -- where one does, there is a constant
@@ -146,7 +146,7 @@ module _ (line : List ℕ) (from to : ℕ) (is-from : from ≡ length (before_in
   like_constant more = go (parts line)
     where
       go : Parts line → is_constant (constant_in line) ≡ true
-      go (Without f) = absurd (more (is-from ∙ ap length (free_apart line f).before_is))
+      go (Without f) = absurd (more (is_from ∙ ap length (free_apart line f).before_is))
       go (With f is e) = is
 
   pub constant_some : from ≢ length line → from < to
@@ -186,19 +186,19 @@ module _ (pre post : List ℕ) (fits : length pre + 1 + length post ≤ 10) wher
       ∙ append_assoc pre (mark ∷ []) post
 
 -- which is the outline of the line
-module _ (line : List ℕ) (from to : ℕ) (is-from : from ≡ length (before_in line)) (is-to : to ≡ from + length (constant_in line)) (h : to ≤ length line)
+module _ (line : List ℕ) (from to : ℕ) (is_from : from ≡ length (before_in line)) (is_to : to ≡ from + length (constant_in line)) (h : to ≤ length line)
     (more : from ≢ length line)
     (short : from + 1 + (length line - to) ≤ 10)
   where
-    pub outline-pasted : (a b : List ℕ) → a ≡ paste (replicate 10 mark) 0 (take from line) (length (take from line))
+    pub outline_pasted : (a b : List ℕ) → a ≡ paste (replicate 10 mark) 0 (take from line) (length (take from line))
         → b ≡ paste a (from + 1) (take (length line - to) (drop to line)) (length (take (length line - to) (drop to line)))
         → take (from + 1 + (length line - to)) b ≡ outline_in line
-    outline-pasted a b p q =
+    outline_pasted a b p q =
         let pre : length (take from line) ≡ from = length-take-le from line (omega arith) in
         let post : length (drop to line) ≡ length line - to = length-drop to line in
         let all : take (length line - to) (drop to line) ≡ drop to line = take_all (length line - to) (drop to line) (omega arith) in
         let together = pasted (take from line) (drop to line) (omega arith) in
-        rw (q, p, all, post, pre, outline_parts line from to is-from is-to more) (rw (post, pre) at together)
+        rw (q, p, all, post, pre, outline_parts line from to is_from is_to more) (rw (post, pre) at together)
 
 -- where two searches stop a line's constant begins and ends, and so the line's form is known
 module _ (line : List ℕ) (from to : ℕ) where

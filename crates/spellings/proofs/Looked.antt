@@ -170,9 +170,9 @@ single_has name a some =
     let all = at_below 25 (sound_single n) (at_below 35 (λ n. all_below 25 (sound_single n)) single_sound n (omega arith)) k (omega arith) in
     let sound = sound_if_lem _ (ltb n 34 && ltb k 24) (single_row n k) (one_text (entry_at names n) (entry_at operands k)) refl all some in
     let there = both (ltb n 34) (ltb k 24) sound.0 in
-    let name-is = place_is name 34 names (ltb-true n 34 there.0) in
-    let a-is = place_is a 24 operands (ltb-true k 24 there.1) in
-    λ e. sound.1 (ap (first_in table) (ap₂ one_text (sym name-is) (sym a-is)) ∙ e)
+    let name_is = place_is name 34 names (ltb-true n 34 there.0) in
+    let a_is = place_is a 24 operands (ltb-true k 24 there.1) in
+    λ e. sound.1 (ap (first_in table) (ap₂ one_text (sym name_is) (sym a_is)) ∙ e)
 
 double_has : (name a b : List ℕ) → double_row (name_in name) (operand_in a) (operand_in b) ≢ no_row → HasRow (two_text name a b)
 unfolding HasRow name_in operand_in
@@ -190,11 +190,11 @@ double_has name a b some =
     all some in
     let there = both (ltb n 34) (ltb k 24 && ltb m 24) sound.0 in
     let two = both (ltb k 24) (ltb m 24) there.1 in
-    let name-is = place_is name 34 names (ltb-true n 34 there.0) in
-    let a-is = place_is a 24 operands (ltb-true k 24 two.0) in
+    let name_is = place_is name 34 names (ltb-true n 34 there.0) in
+    let a_is = place_is a 24 operands (ltb-true k 24 two.0) in
     let b-is = place_is b 24 operands (ltb-true m 24 two.1) in
     λ e. sound.1
-    (ap₂ (λ (x y : List ℕ). first_in table (two_text x y (entry_at operands m))) (sym name-is) (sym a-is)
+    (ap₂ (λ (x y : List ℕ). first_in table (two_text x y (entry_at operands m))) (sym name_is) (sym a_is)
     ∙ ap (λ (y : List ℕ). first_in table (two_text name a y)) (sym b-is)
     ∙ e)
 
@@ -228,9 +228,9 @@ module _ (text : List ℕ) (some : text ≢ []) where
   unfolding HasRow
   by_table_lem has =
       let f = first_of table text has in
-      let some-row : outline_of f.row.spelling ≢ [] = λ e. some (sym f.outlined ∙ e) in
-      let looked = row_found f.row f.listed some-row in
-      let told = (row_told f.row f.listed some-row).first in
+      let some_row : outline_of f.row.spelling ≢ [] = λ e. some (sym f.outlined ∙ e) in
+      let looked = row_found f.row f.listed some_row in
+      let told = (row_told f.row f.listed some_row).first in
       rw f.outlined at (looked ∙ sym told)
 
   neither : first_in table text ≡ no_row → (t : Bool) → eqb (lookup text) no_row ≡ t → lookup text ≡ first_in table text

@@ -117,11 +117,11 @@ module _ (next : ℕ) where
     shown : spelling_text next s ≡ spelled_by (held_text next (constant_of s.operands)) s
     shown = spelling_shown s (both (one_constant s.operands) _ w).0
 
-    shown-constant : constant_in (spelling_text next s) ≡ held_text next (constant_of s.operands)
-    shown-constant = rw shown (spelled_constant s w (held_text next (constant_of s.operands)) takes)
+    shown_constant : constant_in (spelling_text next s) ≡ held_text next (constant_of s.operands)
+    shown_constant = rw shown (spelled_constant s w (held_text next (constant_of s.operands)) takes)
 
-    shown-outline : outline_in (spelling_text next s) ≡ outline_of s
-    shown-outline = rw shown (spelled_outline s w (held_text next (constant_of s.operands)) takes)
+    shown_outline : outline_in (spelling_text next s) ≡ outline_of s
+    shown_outline = rw shown (spelled_outline s w (held_text next (constant_of s.operands)) takes)
 
 -- the row of an opcode before a byte, in an edition
 abbrev pub row_at : ℕ → ℕ → ℕ
@@ -298,10 +298,10 @@ module _ (e : Edition) (next op n w : ℕ) (h : op < 256) (hn : n < 256) (hw : w
 
   row_is : row_by (outline_of (spelling_in e op n w)) ≡ first_row (row_at op n)
   row_is =
-      let some-row : outline_of (row_for e op n).spelling ≢ [] = λ empty. some (outline ∙ empty) in
+      let some_row : outline_of (row_for e op n).spelling ≢ [] = λ empty. some (outline ∙ empty) in
       ap row_by outline
-      ∙ row_first (outline_of (row_for e op n).spelling) some-row
-      ∙ (row_told (row_for e op n) (listed (eqb op 0xCB) e op n h hn) some-row).first
+      ∙ row_first (outline_of (row_for e op n).spelling) some_row
+      ∙ (row_told (row_for e op n) (listed (eqb op 0xCB) e op n h hn) some_row).first
       ∙ ap first_row (row_number (eqb op 0xCB) e op n)
 
   pub recovered : Recovered e next op n w
@@ -310,8 +310,8 @@ module _ (e : Edition) (next op n w : ℕ) (h : op < 256) (hn : n < 256) (hw : w
       let well = (both (well_spelled (spelling_in e op n w)) _ apart).0 in
       let fits : FitsIn (held e op n w) = rw (ap (λ (t : Told). t.constant) all) (held_fits n w hn hw (held e op n w)) in
       record {
-        text = shown-constant next (spelling_in e op n w) well fits;
-        row = ap row_by (shown-outline next (spelling_in e op n w) well fits) ∙ row_is;
+        text = shown_constant next (spelling_in e op n w) well fits;
+        row = ap row_by (shown_outline next (spelling_in e op n w) well fits) ∙ row_is;
         slot = ap (λ (t : Told). t.slot) all;
         fits = fits;
         bytes = ap (λ (t : Told). t.bytes) all ∙ ap (λ b. insn_bytes (size op n w) op b w) (mod-eq_of_lt hn);
@@ -343,8 +343,8 @@ data_bytes b h = ap (λ n. n ∷ []) (mod-eq_of_lt h)
 pub recovered_data : (next b : ℕ) → b < 256 → RecoveredData next b
 recovered_data next b h =
     record {
-      text = shown-constant next (data_of b) (data_well b) h;
-      row = ap row_by (shown-outline next (data_of b) (data_well b) h) ∙ data_row b;
+      text = shown_constant next (data_of b) (data_well b) h;
+      row = ap row_by (shown_outline next (data_of b) (data_well b) h) ∙ data_row b;
       slot = data_slot;
       bytes = data_bytes b h;
     }

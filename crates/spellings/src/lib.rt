@@ -1,5 +1,6 @@
 // The way back from a spelling: its row in the table and where its constant stands, and the bytes of a row with a number.
 #![tactic(auto)]
+
 mod codes;
 mod outlines;
 mod places;

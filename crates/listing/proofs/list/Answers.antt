@@ -17,7 +17,7 @@ use Rattle.listing.specs.declared.Listed.{Listed}
 use Rattle.listing.specs.Forms.{text_if, marks_text, form_in, operands, forms, form_at}
 use Rattle.listing.specs.declared.Edition.{Edition}
 use Rattle.listing.specs.declared.Edition.TheVariants.{Old, New}
-use Rattle.listing.proofs.Answers.{no_such_edition, by-room}
+use Rattle.listing.proofs.Answers.{no_such_edition, by_room}
 use Rattle.listing.proofs.Opcodes.{each_opcode}
 use Rattle.listing.proofs.list.Goals as goal
 
@@ -51,7 +51,7 @@ module _ (edition first : ℕ) (part out : List ℕ) where
 
   lists : (e : Edition) (r : Listed) (left : List ℕ) → (not (eqb edition 1) && not (eqb edition 2)) ≡ false → e ≡ edition_of edition
       → Lists (list_into (listing_of e first part) out) r left → Lists (list_of edition first part out) r left
-  lists e r left h is l = rw (by-room edition first part out (one_of (eqb edition 1) (eqb edition 2) h)) (rw is at l)
+  lists e r left h is l = rw (by_room edition first part out (one_of (eqb edition 1) (eqb edition 2) h)) (rw is at l)
 
 pub returns-then-edition : goal.returns-then-edition
 returns-then-edition c = refuses _ _ _ _ c.if-edition.true

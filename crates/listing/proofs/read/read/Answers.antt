@@ -13,12 +13,12 @@ use Rattle.listing.specs.declared.Edition.{Edition}
 use Rattle.listing.proofs.Taken.{data_is, data_reads, insn_reads}
 use Rattle.listing.proofs.read.read.Goals as goal
 
-module _ (e : Edition) (a : ℕ) (bytes : List ℕ) (some : 0 < length bytes) (op n form size : ℕ) (t : Bool) (op-byte : op < 256) (n-byte : n < 256) (first : op ≡ byte_in 0 bytes) (second : n ≡ byte_in 1 bytes) (found : form ≡ form_at op n) (long : size ≡ form_size form) (test : t ≡ is_data_by form size (length bytes) op n) where
+module _ (e : Edition) (a : ℕ) (bytes : List ℕ) (some : 0 < length bytes) (op n form size : ℕ) (t : Bool) (op_byte : op < 256) (n_byte : n < 256) (first : op ≡ byte_in 0 bytes) (second : n ≡ byte_in 1 bytes) (found : form ≡ form_at op n) (long : size ≡ form_size form) (test : t ≡ is_data_by form size (length bytes) op n) where
   one : byte_in 0 bytes < 256
-  one = rw first at op-byte
+  one = rw first at op_byte
 
   other : byte_in 1 bytes < 256
-  other = rw second at n-byte
+  other = rw second at n_byte
 
   told : t ≡ is_data bytes
   told = (rw (long, found, first, second) at test) ∙ data_is e a bytes some one other

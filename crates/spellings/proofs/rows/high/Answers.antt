@@ -1,0 +1,24 @@
+-- `high` makes four tests.
+use Rattle.listing.specs.Forms.{number_if}
+use Rattle.spellings.specs.Lookup.{high_row}
+use Rattle.spellings.proofs.rows.high.Goals as goal
+
+pub returns-then-a-b : goal.returns-then-a-b
+unfolding number_if high_row
+returns-then-a-b c = rw c.if-a-b.true
+
+pub returns-then-a-b-2 : goal.returns-then-a-b-2
+unfolding number_if high_row
+returns-then-a-b-2 c = rw (c.if-a-b.false, c.if-a-b-2.true)
+
+pub returns-then-a-b-3 : goal.returns-then-a-b-3
+unfolding number_if high_row
+returns-then-a-b-3 c = rw (c.if-a-b.false, c.if-a-b-2.false, c.if-a-b-3.true)
+
+pub returns-then-a-b-4 : goal.returns-then-a-b-4
+unfolding number_if high_row
+returns-then-a-b-4 c = rw (c.if-a-b.false, c.if-a-b-2.false, c.if-a-b-3.false, c.if-a-b-4.true)
+
+pub returns-else-a-b-4 : goal.returns-else-a-b-4
+unfolding number_if high_row
+returns-else-a-b-4 c = rw (c.if-a-b.false, c.if-a-b-2.false, c.if-a-b-3.false, c.if-a-b-4.false)
