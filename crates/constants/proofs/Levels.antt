@@ -203,15 +203,15 @@ module _ (text : List ℕ) (from : ℕ) (negative : Bool) (first : Total) (at : 
   place = at + width_of sign
 
   module _ (s : Signed text at level.sofar) (term : Term) (next : ℕ) (after : Total) where
-    large-with : after.large ≡ (t.large || not (small_term term)) → after.large ≡ (first.large || not (small (put s.behind term)))
-    large-with e =
+    large_with : after.large ≡ (t.large || not (small_term term)) → after.large ≡ (first.large || not (small (put s.behind term)))
+    large_with e =
         rw (put_small s.behind term, s.small)
         (e ∙ rw level.large (not_both first.large (sofar_small level.sofar) (small_term term)))
 
-    total-with : (small_term term ≡ true → total_of after ≡ total_of t +ℤ turned_by (turned sign negative) (term_value term))
+    total_with : (small_term term ≡ true → total_of after ≡ total_of t +ℤ turned_by (turned sign negative) (term_value term))
         → small (put s.behind term) ≡ true → total_of after ≡ total_of first +ℤ turned_by negative (value_of (put s.behind term))
     unfolding turned
-    total-with f e =
+    total_with f e =
         let smalls = both (sofar_small level.sofar) (small_term term) (rw (put_small s.behind term, s.small) at e) in
         let before = turned_by negative (sofar_value level.sofar) in
         let value = turned_by (eqb sign 45) (term_value term) in
@@ -238,8 +238,8 @@ module _ (text : List ℕ) (from : ℕ) (negative : Bool) (first : Total) (at : 
       further = omega (arith, level.further);
       within = within;
       holds = holds;
-      large = large-with large;
-      total = total-with total;
+      large = large_with large;
+      total = total_with total;
     }
 
 -- the text goes on, or the level ends here

@@ -34,73 +34,73 @@ module _ {text : List ℕ} {from depth : ℕ} {negative : Bool} {first : Total} 
     formed : read_from (Wants o.pile Nothing) (drop from text) ≡ Formed o.whole
     formed = o.reads
 
-    sign-here : Signed text at level.sofar
-    sign-here =
+    sign_here : Signed text at level.sofar
+    sign_here =
         let on = goes_on_lem text at _ refl goes in
         signed text at on.0 o.pile o.whole level.sofar _ _ refl refl on.1 (sym (level.reads o.pile) ∙ formed)
 
     abbrev place : ℕ
     place = at + width_of (get_or text at 0)
 
-    pub place-within : place < length text
-    place-within = sign-here.within
+    pub place_within : place < length text
+    place_within = sign_here.within
 
-    term-formed : read_from (begun o.pile sign-here.behind (get_or text place 0)) (drop (suc place) text) ≡ Formed o.whole
-    term-formed = sym (sign-here.reads o.pile) ∙ sym (level.reads o.pile) ∙ formed
+    term_formed : read_from (begun o.pile sign_here.behind (get_or text place 0)) (drop (suc place) text) ≡ Formed o.whole
+    term_formed = sym (sign_here.reads o.pile) ∙ sym (level.reads o.pile) ∙ formed
 
     -- a constant in parentheses
     module _ (opens : get_or text place 0 ≡ 40) where
-      opened : (pile : List Behind) → begun pile sign-here.behind (get_or text place 0) ≡ Wants (sign-here.behind ∷ pile) Nothing
+      opened : (pile : List Behind) → begun pile sign_here.behind (get_or text place 0) ≡ Wants (sign_here.behind ∷ pile) Nothing
       unfolding begun state_if
       opened pile = rw opens
 
-      inner-formed : read_from (Wants (sign-here.behind ∷ o.pile) Nothing) (drop (suc place) text) ≡ Formed o.whole
-      inner-formed = ap (λ (s : State). read_from s (drop (suc place) text)) (sym (opened o.pile)) ∙ term-formed
+      inner_formed : read_from (Wants (sign_here.behind ∷ o.pile) Nothing) (drop (suc place) text) ≡ Formed o.whole
+      inner_formed = ap (λ (s : State). read_from s (drop (suc place) text)) (sym (opened o.pile)) ∙ term_formed
 
       inner_room : length o.pile < 16
-      inner_room = room o.pile sign-here.behind (drop (suc place) text) o.whole inner-formed o.fits
+      inner_room = room o.pile sign_here.behind (drop (suc place) text) o.whole inner_formed o.fits
 
-      pub depth-left : 0 < depth
-      depth-left = omega (arith, inner_room, o.room)
+      pub depth_left : 0 < depth
+      depth_left = omega (arith, inner_room, o.room)
 
-      pub inner-opens : Opens text (place + 1) (depth - 1) t
-      inner-opens = record {
-        pile = sign-here.behind ∷ o.pile;
+      pub inner_opens : Opens text (place + 1) (depth - 1) t
+      inner_opens = record {
+        pile = sign_here.behind ∷ o.pile;
         whole = o.whole;
-        reads = rw (add-one place) inner-formed;
+        reads = rw (add-one place) inner_formed;
         fits = o.fits;
         room = omega (arith, inner_room, o.room);
-        within = omega (arith, place-within);
+        within = omega (arith, place_within);
         holds = holds_on (omega arith) level.holds;
       }
 
       module _ (r : Sum) (below : Bool) (is : below ≡ turned (get_or text at 0) negative) (sums : Sums text (place + 1) below t r) where
-        inner-reads : (pile : List Behind) → read_from (Wants pile Nothing) (drop (suc place) text) ≡ read_from (Has pile sums.sum) (drop r.at text)
-        inner-reads = rw (add-one place) at sums.reads
+        inner_reads : (pile : List Behind) → read_from (Wants pile Nothing) (drop (suc place) text) ≡ read_from (Has pile sums.sum) (drop r.at text)
+        inner_reads = rw (add-one place) at sums.reads
 
-        inner-closed : (r.at < length text)
-            × ((p : List Behind) → read_from (Has (sign-here.behind ∷ p) sums.sum) (drop r.at text)
-            ≡ read_from (Has p (put sign-here.behind (Within sums.sum))) (drop (suc r.at) text))
-        inner-closed =
-            closed_within text r.at sign-here.behind o.pile o.whole sums.sum sums.ends
-            (sym (inner-reads (sign-here.behind ∷ o.pile)) ∙ inner-formed)
+        inner_closed : (r.at < length text)
+            × ((p : List Behind) → read_from (Has (sign_here.behind ∷ p) sums.sum) (drop r.at text)
+            ≡ read_from (Has p (put sign_here.behind (Within sums.sum))) (drop (suc r.at) text))
+        inner_closed =
+            closed_within text r.at sign_here.behind o.pile o.whole sums.sum sums.ends
+            (sym (inner_reads (sign_here.behind ∷ o.pile)) ∙ inner_formed)
 
-        pub closed-within-text : r.at < length text
-        closed-within-text = inner-closed.0
+        pub closed_within_text : r.at < length text
+        closed_within_text = inner_closed.0
 
-        pub inner-further : at < r.at + 1
-        inner-further = omega (arith, sums.further)
+        pub inner_further : at < r.at + 1
+        inner_further = omega (arith, sums.further)
 
-        pub inner-level : Level text from negative first (r.at + 1) r.total
+        pub inner_level : Level text from negative first (r.at + 1) r.total
         unfolding small_term term_value
-        inner-level =
-            term_read text from negative first at t level sign-here (Within sums.sum) (r.at + 1) r.total
+        inner_level =
+            term_read text from negative first at t level sign_here (Within sums.sum) (r.at + 1) r.total
             (λ pile. rw (add-one r.at)
             (ap (λ (s : State). read_from s (drop (suc place) text)) (opened pile)
-            ∙ inner-reads (sign-here.behind ∷ pile)
-            ∙ inner-closed.1 pile))
+            ∙ inner_reads (sign_here.behind ∷ pile)
+            ∙ inner_closed.1 pile))
             (omega (arith, sums.further))
-            (omega (arith, inner-closed.0))
+            (omega (arith, inner_closed.0))
             (holds_on (omega arith) sums.holds)
             sums.large
             (rw is at sums.total)
@@ -109,38 +109,38 @@ module _ {text : List ℕ} {from depth : ℕ} {negative : Bool} {first : Total} 
     pub number_at : get_or text place 0 ≢ 40 → NumberAt text place
     number_at other = record {
       pile = o.pile;
-      behind = sign-here.behind;
+      behind = sign_here.behind;
       whole = o.whole;
-      reads = term-formed;
-      within = place-within;
+      reads = term_formed;
+      within = place_within;
       other = other;
     }
 
     module _ (r : Numeral) (after : Total) (below : Bool) (is : below ≡ turned (get_or text at 0) negative) (counts : Counts text place r)
         (adds : Adds t r.value below after)
       where
-        number-large : after.large ≡ (t.large || not (small_term (Number counts.base counts.digits)))
+        number_large : after.large ≡ (t.large || not (small_term (Number counts.base counts.digits)))
         unfolding small_term
-        number-large = adds.large ∙ rw (counts.value, clipped_small (worth counts.base counts.digits) _ refl)
+        number_large = adds.large ∙ rw (counts.value, clipped_small (worth counts.base counts.digits) _ refl)
 
-        number-total : small_term (Number counts.base counts.digits) ≡ true
+        number_total : small_term (Number counts.base counts.digits) ≡ true
             → total_of after ≡ total_of t +ℤ turned_by (turned (get_or text at 0) negative) (term_value (Number counts.base counts.digits))
         unfolding small_term term_value
-        number-total e =
+        number_total e =
             let small = leb-true (worth counts.base counts.digits) 65535 e in
             let same : clipped (worth counts.base counts.digits) ≡ worth counts.base counts.digits = omega arith in
             let held : r.value ≡ worth counts.base counts.digits = counts.value ∙ same in
             rw (is, held) at (adds.total (omega (arith, held, small)))
 
-        pub number-further : at < r.at
-        number-further = omega (arith, counts.further)
+        pub number_further : at < r.at
+        number_further = omega (arith, counts.further)
 
-        pub number-level : Level text from negative first r.at after
-        number-level =
-            term_read text from negative first at t level sign-here (Number counts.base counts.digits) r.at after
-            (λ pile. counts.reads pile sign-here.behind)
+        pub number_level : Level text from negative first r.at after
+        number_level =
+            term_read text from negative first at t level sign_here (Number counts.base counts.digits) r.at after
+            (λ pile. counts.reads pile sign_here.behind)
             (omega (arith, counts.further))
             counts.within
             (holds_on (omega (arith, counts.further)) (adds.holds at level.holds))
-            number-large
-            number-total
+            number_large
+            number_total

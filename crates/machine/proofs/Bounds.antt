@@ -24,7 +24,6 @@ use Rattle.insn.specs.declared.Register.TheVariants as reg
 use Rattle.insn.specs.declared.Operand.{Operand}
 use Rattle.insn.specs.declared.Operand.TheVariants.{Reg, AtHl, Const}
 use Rattle.insn.specs.declared.Place.{Place}
-use Rattle.insn.specs.declared.Place.TheVariants as place
 use Rattle.insn.specs.declared.Pair.{Pair}
 use Rattle.insn.specs.declared.Pair.TheVariants as pair
 use Rattle.insn.specs.declared.Stacked.{Stacked}
@@ -127,11 +126,11 @@ placed_sound q v s p h = by_place (λ w. Sound w.out) v s (λ r. reg_sound r v s
 
 updated_sound : (q : Place) (r : Byte) (s : Cpu) → ByteFits r → Sound s → Sound (updated_of q r s).out
 unfolding updated_of
-updated_sound q r s f h = placed_sound q r.value _ f.value-below (omega (arith, f.flags-below))
+updated_sound q r s f h = placed_sound q r.value _ f.value_below (omega (arith, f.flags_below))
 
 result_sound : (r : Byte) (s : Cpu) → ByteFits r → Sound s → Sound (result_of r s)
 unfolding result_of
-result_sound r s f h = omega (arith, f.value-below, f.flags-below)
+result_sound r s f h = omega (arith, f.value_below, f.flags_below)
 
 loaded_sound : (at : ℕ) (s : Cpu) (m : Memory) → Sound s → Bytes m → Sound (loaded_from at s m)
 unfolding loaded_from
@@ -279,16 +278,16 @@ executed own Stop s m = plain (same refl (λ i h b. omega arith))
 executed own (Jr e) s m = plain (same refl (λ i h b. omega (arith, offset_below e s.pc)))
 executed own (JrIf cc e) s m = branches _ refl (λ i h b. omega (arith, offset_below e s.pc)) none
 executed own (LoadPair w rp) s m = plain (same (pair_same rp _ _) (λ i h b. pair_sound rp w s i h))
-executed own (AddHl rp) s m = plain (new (added_hl_fits _ _ _).flags-low (λ i h b. hl_sound _ _ (flags_sound _ s (added_hl_fits _ _ _).flags-below h)))
+executed own (AddHl rp) s m = plain (new (added_hl_fits _ _ _).flags_low (λ i h b. hl_sound _ _ (flags_sound _ s (added_hl_fits _ _ _).flags_below h)))
 executed own (StoreAt p) s m = does (same (moved_same p _) (λ i h b. moved_sound p s h)) (one (λ _ h _. h.a))
 executed own (LoadAt p) s m = plain (same (moved_same p _) (λ i h b. moved_sound p _ (loaded_sound _ s m h b)))
 executed own (IncPair rp) s m = plain (same (pair_same rp _ _) (λ i h b. pair_sound rp _ s (further_below 1 _) h))
 executed own (DecPair rp) s m = plain (same (pair_same rp _ _) (λ i h b. pair_sound rp _ s (back_below 1 _) h))
-executed own (Inc q) s m = does (new (same_low (updated_same q _ s) (increased_fits _ _).flags-low) (λ i h b. updated_sound q _ s (increased_fits _ _) h)) (place_stores q _ _ (λ i h b. (increased_fits _ _).value-below))
-executed own (Dec q) s m = does (new (same_low (updated_same q _ s) (decreased_fits _ _).flags-low) (λ i h b. updated_sound q _ s (decreased_fits _ _) h)) (place_stores q _ _ (λ i h b. (decreased_fits _ _).value-below))
+executed own (Inc q) s m = does (new (same_low (updated_same q _ s) (increased_fits _ _).flags_low) (λ i h b. updated_sound q _ s (increased_fits _ _) h)) (place_stores q _ _ (λ i h b. (increased_fits _ _).value_below))
+executed own (Dec q) s m = does (new (same_low (updated_same q _ s) (decreased_fits _ _).flags_low) (λ i h b. updated_sound q _ s (decreased_fits _ _) h)) (place_stores q _ _ (λ i h b. (decreased_fits _ _).value_below))
 executed own (Load q o) s m = does (same (placed_same _ _ _) (λ i h b. placed_sound q _ s (value_below o s m i h b) h)) (place_stores q _ _ (λ i h b. value_below o s m i h b))
 executed own (RotateA r) s m = plain (new (flags_low _ _ _ _) (λ i h b. result_sound _ s (rotation_a_fits r s.a _ h.a) h))
-executed own Daa s m = plain (new (decimal_fits _ _).flags-low (λ i h b. result_sound _ s (decimal_fits s.a s.f) h))
+executed own Daa s m = plain (new (decimal_fits _ _).flags_low (λ i h b. result_sound _ s (decimal_fits s.a s.f) h))
 executed own Cpl s m = plain (new (flags_low _ _ _ _) (λ i h b. omega (arith, flags_below (z_of s.f) true true (c_of s.f))))
 executed own Scf s m = plain (new (flags_low _ _ _ _) (λ i h b. flags_sound _ s (flags_below _ _ _ _) h))
 executed own Ccf s m = plain (new (flags_low _ _ _ _) (λ i h b. flags_sound _ s (flags_below _ _ _ _) h))
@@ -296,9 +295,9 @@ executed own Halt s m = plain (record { low = same_low (halted_same _ s.ime own 
 executed own (Math op o) s m = plain (new (alu_low op _ _ _) (λ i h b. result_sound _ s (alu_fits op s.a _ s.f h.a (value_below o s m i h b)) h))
 executed own (RetIf cc) s m = branches _ refl (λ i h b. omega (arith, further_below 2 s.sp, word_at_below m s.sp b)) none
 executed own (StoreHigh n) s m = does kept (one (λ _ h _. h.a))
-executed own (AddSp e) s m = plain (new (added_sp_fits _ _).flags-low (λ i h b. let r = added_sp_fits s.sp e in omega (arith, r.flags-below, r.value-below)))
+executed own (AddSp e) s m = plain (new (added_sp_fits _ _).flags_low (λ i h b. let r = added_sp_fits s.sp e in omega (arith, r.flags_below, r.value_below)))
 executed own (LoadHigh n) s m = plain (same refl (λ i h b. loaded_sound _ s m h b))
-executed own (LoadHlSp e) s m = plain (new (added_sp_fits _ _).flags-low (λ i h b. hl_sound _ _ (flags_sound _ s (added_sp_fits _ _).flags-below h)))
+executed own (LoadHlSp e) s m = plain (new (added_sp_fits _ _).flags_low (λ i h b. hl_sound _ _ (flags_sound _ s (added_sp_fits _ _).flags_below h)))
 executed own (Pop rp) s m = plain (record { low = stacked_low rp _ _; sound = λ _ i h b. stacked_sound rp _ _ (omega (arith, further_below 2 s.sp)) })
 executed own Ret s m = plain (same refl (λ i h b. omega (arith, further_below 2 s.sp, word_at_below m s.sp b)))
 executed own Reti s m = plain (same refl (λ i h b. omega (arith, further_below 2 s.sp, word_at_below m s.sp b)))
@@ -310,7 +309,7 @@ executed own (StoreTo w) s m = does kept (one (λ _ h _. h.a))
 executed own LoadHighC s m = plain (same refl (λ i h b. loaded_sound _ s m h b))
 executed own (LoadFrom w) s m = plain (same refl (λ i h b. loaded_sound _ s m h b))
 executed own (Jump w) s m = plain (same refl (λ i h b. omega (arith, i)))
-executed own (Rotate r q) s m = does (new (same_low (updated_same q _ s) (flags_low _ _ _ _)) (λ i h b. updated_sound q _ s (rotation_fits r _ _ (held_below q s m h b)) h)) (place_stores q _ _ (λ i h b. (rotation_fits r _ _ (held_below q s m h b)).value-below))
+executed own (Rotate r q) s m = does (new (same_low (updated_same q _ s) (flags_low _ _ _ _)) (λ i h b. updated_sound q _ s (rotation_fits r _ _ (held_below q s m h b)) h)) (place_stores q _ _ (λ i h b. (rotation_fits r _ _ (held_below q s m h b)).value_below))
 executed own (Bit k q) s m = plain (new (tested_low _ _ _) (λ i h b. flags_sound _ s (tested_below _ _ _) h))
 executed own (Res k q) s m = does (same (placed_same _ _ _) (λ i h b. placed_sound q _ s (reset_below k _ (held_below q s m h b)) h)) (place_stores q _ _ (λ i h b. reset_below k _ (held_below q s m h b)))
 executed own (Set k q) s m = does (same (placed_same _ _ _) (λ i h b. placed_sound q _ s (set_below k _ (held_below q s m h b)) h)) (place_stores q _ _ (λ i h b. set_below k _ (held_below q s m h b)))

@@ -8,7 +8,7 @@ use mathlib.Core.Path.{◌≡◌, refl, sym, ◌∙◌}
 use borrow.Author.Tests.{eqb-false}
 use native.Mathlib.Omega.{arith}
 use Rattle.arith.specs.Refusals.{Refusal, code_of, unless_refused}
-use Rattle.arith.proofs.Refusals.{NoneHolds, First, number_at, distinct, code_within, refused_none, refused_first}
+use Rattle.arith.proofs.Refusals.{NoneHolds, First, number_at, code_within, refused_none, refused_first}
 use Rattle.insn.specs.Shapes.{shape_of, is_undefined}
 use Rattle.insn.proofs.Laws.{undefined_bytes, among, undefined_is, undefined_bytes_lem}
 use Rattle.machine.specs.Answers.{With}

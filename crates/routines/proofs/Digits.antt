@@ -32,7 +32,7 @@ adjusted r = decimal_of r.value r.flags
 
 pub adjusted_low : (r : Byte) → (adjusted r).flags % 16 ≡ 0
 unfolding adjusted
-adjusted_low r = (decimal_fits r.value r.flags).flags-low
+adjusted_low r = (decimal_fits r.value r.flags).flags_low
 
 -- a number below 100 as a byte of digits and its F: N and C as given, H 0
 abbrev pub bcd_byte : ℕ → Bool → Bool → Byte

@@ -96,5 +96,5 @@ loop (suc r) {p} {m} {dst} {src} {f = f} {b = b} fits low de hl y most count =
     let g = (turned m dst src f).flags in
     let left : (decreased_of b g).value ≡ suc r = rw count (decreased_count (suc r) g most) in
     loop_more fits low de hl y (omega arith)
-    (loop r fits (decreased_fits b g).flags-low (word_next src (omega arith)) (word_next dst (omega arith)) (onward y v)
+    (loop r fits (decreased_fits b g).flags_low (word_next src (omega arith)) (word_next dst (omega arith)) (onward y v)
     (omega arith) (left ∙ omega arith))

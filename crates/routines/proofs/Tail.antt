@@ -74,6 +74,6 @@ module _ {routine : List ℕ} {q back p n : ℕ} {m : Memory} {dst src : ℕ} (x
       let t = onward y v in
       let operand = t.code (q + 4) (omega arith) ∙ x.offset in
       counted
-      then jr_nz_taken t.size (decreased_fits b f).flags-low (t.code (q + 3) (omega arith) ∙ x.jr)
+      then jr_nz_taken t.size (decreased_fits b f).flags_low (t.code (q + 3) (omega arith) ∙ x.jr)
       (decreased_z b f ∙ ne_eqb _ _ more)
       (rw (two_on p q fits, next (p + (q + 3)) (p + (q + 4)) (omega arith), operand) to)

@@ -22,7 +22,7 @@ pub record Right (size : ℕ) (h : List ℕ) : Type 0 where
   pub version_is : version_in h ≡ version
   pub block_is : block_size_in h ≡ block_size
   pub memory_is : memory_size_in h ≡ memory_size
-  pub has_codes_lem : has_codes (block_in h) ≡ true
+  pub has_codes : has_codes (block_in h) ≡ true
   pub flags_low : flags_in (block_in h) % 16 ≡ 0
 
 -- a test of a refusal that does not hold
@@ -40,7 +40,7 @@ accepted_right size h p =
       version_is = is none.1.0;
       block_is = eqb-true _ _ lengths.0;
       memory_is = eqb-true _ _ lengths.1;
-      has_codes_lem = not-false _ none.1.1.1.0;
+      has_codes = not-false _ none.1.1.1.0;
       flags_low = is none.1.1.1.1.0;
     }
 
@@ -53,8 +53,8 @@ right_accepted size h r =
       eq-eqb _ _ r.version_is,
       eq-eqb _ _ r.block_is,
       eq-eqb _ _ r.memory_is,
-      r.has-codes,
-      eq-eqb _ _ r.flags-low,
+      r.has_codes,
+      eq-eqb _ _ r.flags_low,
     )
 
 -- saving
@@ -76,7 +76,7 @@ accepted_head_fits s h p =
 
 pub head_fits_accepted : (s : Cpu) (h : List ℕ) → HeadFits s h → Accepted (save_head_code s h)
 unfolding order save_head_code save_head_refusals flags_refusals
-head_fits_accepted s h r = rw (eq-eqb _ _ r.size_is, eq-eqb _ _ r.flags-low)
+head_fits_accepted s h r = rw (eq-eqb _ _ r.size_is, eq-eqb _ _ r.flags_low)
 
 pub accepted_image_fits : (s : Cpu) (m image : List ℕ) → Accepted (save_image_code s m image) → ImageFits s m image
 unfolding save_image_code save_image_refusals flags_refusals
@@ -86,4 +86,4 @@ accepted_image_fits s m image p =
 
 pub image_fits_accepted : (s : Cpu) (m image : List ℕ) → ImageFits s m image → Accepted (save_image_code s m image)
 unfolding order save_image_code save_image_refusals flags_refusals
-image_fits_accepted s m image r = rw (eq-eqb _ _ r.size_is, eq-eqb _ _ r.memory_is, eq-eqb _ _ r.flags-low)
+image_fits_accepted s m image r = rw (eq-eqb _ _ r.size_is, eq-eqb _ _ r.memory_is, eq-eqb _ _ r.flags_low)

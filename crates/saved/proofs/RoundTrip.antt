@@ -45,7 +45,7 @@ module _ (s : Cpu) (behind : List ℕ) where
         version_is = refl;
         block_is = refl;
         memory_is = refl;
-        has_codes_lem = has_codes_lem s;
+        has_codes = has_codes_lem s;
         flags_low = rw (held_flags s) q;
       }
 
@@ -78,7 +78,7 @@ block_again : (size : ℕ) (h : List ℕ) → head_size ≤ length h → ByteLis
 unfolding state_in
 block_again size h long bytes right =
     let there = read_block h long in
-    rw there (block_back _ (bytes_at_length block_size 5 h) (bytes_at_below block_size 5 h bytes) (rw there at right.has-codes))
+    rw there (block_back _ (bytes_at_length block_size 5 h) (bytes_at_below block_size 5 h bytes) (rw there at right.has_codes))
 
 made_again : (size : ℕ) (h : List ℕ) → head_size ≤ length h → ByteList h → Right size h → head_of (state_in h) ≡ take head_size h
 unfolding head_of version_in block_size_in memory_size_in byte_in bytes_at
@@ -98,7 +98,7 @@ loaded_as_saved s h sound accepted =
     let fits = accepted_head_fits s h accepted in
     let whole = append-nil (head_of s) in
     let size = ap length whole ∙ head_length s in
-    rw accepted (rw whole at (made_load s [] head_size size fits.flags-low sound))
+    rw accepted (rw whole at (made_load s [] head_size size fits.flags_low sound))
 
 -- and of an image the memory too
 
@@ -108,8 +108,8 @@ unfolding save_image_of saved_by left_by image_of open_of memory_if unless_refus
 opened_as_saved s m image sound accepted =
     let fits = accepted_image_fits s m image accepted in
     let size = image_length s m fits.memory_is in
-    let right = made_right s m image_size size fits.flags-low in
-    rw (accepted, made_load s m image_size size fits.flags-low sound, right_accepted _ _ right, made_memory s m)
+    let right = made_right s m image_size size fits.flags_low in
+    rw (accepted, made_load s m image_size size fits.flags_low sound, right_accepted _ _ right, made_memory s m)
 
 -- a save of a load writes the same head again
 
@@ -118,7 +118,7 @@ pub saved_as_loaded : (h old : List ℕ) → ByteList h → Accepted (load_head_
 unfolding load_head_of load_of loaded_by state_if save_head_of saved_by left_by unless_refused
 saved_as_loaded h old bytes accepted size =
     let right = accepted_right head_size h accepted in
-    let fits = head_fits_accepted (state_in h) old (record { size_is = size; flags_low = rw read_flags right.flags-low }) in
+    let fits = head_fits_accepted (state_in h) old (record { size_is = size; flags_low = rw read_flags right.flags_low }) in
     let long : head_size ≤ length h = omega (arith, right.size_is) in
     let short : length h ≤ head_size = omega (arith, right.size_is) in
     rw (accepted, fits, made_again head_size h long bytes right, take_all head_size h short)
@@ -134,7 +134,7 @@ saved_as_opened image old bytes accepted size =
     let memory : length (drop head_size image) ≡ memory_size = rw (length-drop head_size image, right.size_is) in
     let fits =
     image_fits_accepted (state_in image) (drop head_size image) old
-    (record { size_is = size; memory_is = memory; flags_low = rw read_flags right.flags-low }) in
+    (record { size_is = size; memory_is = memory; flags_low = rw read_flags right.flags_low }) in
     rw (accepted, fits, made_again image_size image long bytes right, take-append-drop)
 
 -- what is saved is bytes, and what is loaded is a state as the code holds one

@@ -41,6 +41,10 @@ headed s image = head_of s ++ drop (length (head_of s)) image
 abbrev pub behind : Cpu → List ℕ → List ℕ
 behind s image = take (length (headed s image) - head_size) (drop head_size (headed s image))
 
+-- the bytes of a head, copied over the front of an image
+pub headed_by : (s : Cpu) (made image : List ℕ) → made ≡ head_of s → made ++ drop head_size image ≡ headed s image
+headed_by s made image e = rw (e, head_length s)
+
 module _ (s : Cpu) (m image : List ℕ) (size : length image ≡ image_size) (memory : length m ≡ memory_size) where
   pub behind_length : length (behind s image) ≡ memory_size
   behind_length =
@@ -57,3 +61,7 @@ module _ (s : Cpu) (m image : List ℕ) (size : length image ≡ image_size) (me
         put_to_end head_size (headed s image) m,
         take_at (head_of s) (drop (length (head_of s)) image) head_size (head_length s),
       )
+
+  -- so is it once a memory just as long as the part is copied over it
+  pub memory_written : put_mid head_size (length (headed s image) - head_size) (headed s image) m ≡ image_of s m
+  memory_written = rw (copied_over m (behind s image) (omega (arith, behind_length, memory))) at image_written

@@ -1,5 +1,6 @@
 // The saved state: a head of 23 bytes, and an image of 65,559, which is a head and the memory after it.
 #![tactic(auto)]
+
 pub mod block;
 pub mod codes;
 mod head;
@@ -75,7 +76,7 @@ pub fn save_head(cpu: Cpu, head: &mut [u8]) -> u8
     let head_refusal = save_head_refusal(cpu, head);
     if head_refusal == 0 {
         let made = head::bytes_of(cpu);
-        bytes::copy(&made, head);
+        head.copy_from_slice(&made);
         return 0;
     }
     head_refusal
@@ -100,8 +101,8 @@ pub fn save_image(cpu: Cpu, mem: &[u8], image: &mut [u8]) -> u8
     let image_refusal = save_image_refusal(cpu, mem, image);
     if image_refusal == 0 {
         let made = head::bytes_of(cpu);
-        bytes::copy(&made, image);
-        bytes::copy(mem, &mut image[head::HEAD_SIZE..]);
+        image[..head::HEAD_SIZE].copy_from_slice(&made);
+        image[head::HEAD_SIZE..].copy_from_slice(mem);
         return 0;
     }
     image_refusal

@@ -170,7 +170,7 @@ free_outline : (line : List ℕ) → free line ≡ true → outline_in line ≡ 
 unfolding outline_in marked
 free_outline line f =
     let a = free_apart line f in
-    rw (a.before_is, a.constant-is, a.behind_is, append-nil)
+    rw (a.before_is, a.constant_is, a.behind_is, append-nil)
 
 pub mark_of : (t : List ℕ) → is_constant t ≡ true → marked t ≡ mark ∷ []
 unfolding marked
@@ -194,5 +194,5 @@ pub outline_apart : (line : List ℕ) → Parts line → Apart (outline_in line)
 unfolding marked
 outline_apart line (Without f) =
     let a = free_apart line f in
-    rw (free_outline line f, a.constant-is) (record { before_is = refl; constant_is = a.constant-is; behind_is = refl })
+    rw (free_outline line f, a.constant_is) (record { before_is = refl; constant_is = a.constant_is; behind_is = refl })
 outline_apart line (With f is e) = unfold outline_in in rw (mark_of (constant_in line) is) (around_apart (before_in line) (mark ∷ []) (behind_in line) f mark_is_constant e)

@@ -169,18 +169,18 @@ cut_apart : (c : Cut) (t : List ℕ) → well_cut c ≡ true → Fills c t → (
 unfolding outline_in marked
 cut_apart (Plain xs) t w f =
     let a = free_apart xs w in
-    (a.constant-is ∙ sym f, rw (a.before_is, a.constant-is, a.behind_is, append-nil))
+    (a.constant_is ∙ sym f, rw (a.before_is, a.constant_is, a.behind_is, append-nil))
 cut_apart (Holds pre post) t w f =
     let each = both (free pre) (ended post) w in
     let a = around_apart pre t post each.0 f each.1 in
-    (a.constant-is, rw (a.before_is, a.constant-is, a.behind_is, mark_of t f))
+    (a.constant_is, rw (a.before_is, a.constant_is, a.behind_is, mark_of t f))
 
 -- and back: a line that has the outline
 module _ (line : List ℕ) where
   constant_like : Parts line → (marked (constant_in line) ≡ mark ∷ []) → is_constant (constant_in line) ≡ true
   unfolding marked
   constant_like (Without f) e =
-      let z : ◌≡◌ {A = ℕ} 0 1 = cc (ap marked (free_apart line f).constant-is) in
+      let z : ◌≡◌ {A = ℕ} 0 1 = cc (ap marked (free_apart line f).constant_is) in
       absurd (omega arith)
   constant_like (With f is e') e = is
 
@@ -192,7 +192,7 @@ module _ (line : List ℕ) where
   cut_back (Plain xs) w e =
       let a = outline_apart line (parts line) in
       let b = free_apart xs w in
-      let none = no_mark (constant_in line) (sym a.constant-is ∙ ap constant_in e ∙ b.constant-is) in (
+      let none = no_mark (constant_in line) (sym a.constant_is ∙ ap constant_in e ∙ b.constant_is) in (
         joined_back xs [] [] (sym a.before_is ∙ ap before_in e ∙ b.before_is) none
             (sym a.behind_is ∙ ap behind_in e ∙ b.behind_is)
             ∙ append-nil xs,
@@ -204,7 +204,7 @@ module _ (line : List ℕ) where
       let b = around_apart pre (mark ∷ []) post each.0 mark_is_constant each.1 in (
         joined_back pre (constant_in line) post (sym a.before_is ∙ ap before_in e ∙ b.before_is) refl
             (sym a.behind_is ∙ ap behind_in e ∙ b.behind_is),
-        constant_like (parts line) (sym a.constant-is ∙ ap constant_in e ∙ b.constant-is),
+        constant_like (parts line) (sym a.constant_is ∙ ap constant_in e ∙ b.constant_is),
       )
 
 -- a spelling whose constant's place a line shows

@@ -14,7 +14,7 @@ use Rattle.saved.proofs.Accepted.{accepted_right}
 
 pub loads_low : (size : ℕ) (h : List ℕ) → Accepted (load_code size h) → (state_in h).f % 16 ≡ 0
 unfolding state_in held_in
-loads_low size h accepted = (accepted_right size h accepted).flags-low
+loads_low size h accepted = (accepted_right size h accepted).flags_low
 
 abbrev Low : Cpu → List ℕ → Type 0
 Low s m = s.f % 16 ≡ 0

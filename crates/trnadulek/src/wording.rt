@@ -7,7 +7,7 @@ fn put(wording: &[u8], out: &mut [u8]) -> usize
     ensures { Gives (tell_of wording.now out.old) result out.new }
 {
     if wording.len() <= out.len() {
-        return bytes::copy(wording, out);
+        out[..wording.len()].copy_from_slice(wording);
     }
     wording.len()
 }

@@ -1,6 +1,5 @@
 -- `read` answers by the form, and where that is right by the sum of the whole.
 use Prim.Native.Nat.{ℕ}
-use borrow.Author.Rules.{rules}
 use borrow.Author.Tests.{eqb-true, not-false}
 use mathlib.Core.Bool.{Bool, true, false, ◌&&◌, not}
 use mathlib.Core.List.{List, [], ◌∷◌}
@@ -113,9 +112,6 @@ whole text none r e large zero sums =
 pub sum-sum-requires : goal.sum-sum-requires
 sum-sum-requires c =
     opens _ _ (sym c.form-form.ensures ∙ c.in-Right.is) refl refl refl
-
-pub found-requires : goal.found-requires
-found-requires c = c.sum-sum.ensures.holds.low
 
 pub returns-in-Wrong : goal.returns-in-Wrong
 unfolding found_of

@@ -1,7 +1,6 @@
 -- `list` refuses an edition that there is not, and lists by its table, which spells every instruction in both: antt computes it, opcode
 -- by opcode, whatever follows.
 use Prim.Native.Nat.{ℕ, ◌<◌}
-use borrow.Author.Rules.{rules}
 use mathlib.Core.Bool.{Bool, true, false, ◌||◌, ◌&&◌, not}
 use mathlib.Core.List.{List, []}
 use mathlib.Core.Path.{◌≡◌, refl, sym}
@@ -57,9 +56,9 @@ module _ (edition first : ℕ) (part out : List ℕ) where
 pub returns-then-edition : goal.returns-then-edition
 returns-then-edition c = refuses _ _ _ _ c.if-edition.true
 
-pub shape_of-out : goal.shape_of-out
+pub list-requires : goal.list-requires
 unfolding spellings grid shapes ascii digits_of glyph_of hex_text width_if width_of decimal_text joined forms
-shape_of-out c =
+list-requires c =
     record {
       size = refl;
       spell = elim [
@@ -69,4 +68,5 @@ shape_of-out c =
       data_byte = λ e b next. refl;
     }
 
--- LEFT returns_2
+pub returns : goal.returns
+returns c = lists _ _ _ _ _ _ _ c.if-edition.false c.numbered.ensures c.list.ensures

@@ -12,7 +12,7 @@ returns c =
     let held = ran.before.before in
     let branch = held.before.before in
     let told = rw held.state-of.ensures at ran.run.ensures in
-    rw (← branch.before.has-codes.ensures, branch.if1.true)
+    rw (← branch.before.has_codes.ensures, branch.if1.true)
     (record {
       answers = rw told.answers;
       leaves_state = rw (c.bytes_of.ensures, told.answers);
@@ -24,7 +24,7 @@ returns c =
 returns_2 : tie.Need-returns-2
 unfolding run_block_of run_if
 returns_2 c =
-    rw (← c.before.has-codes.ensures, c.if1.false)
+    rw (← c.before.has_codes.ensures, c.if1.false)
     (record { answers = refl; leaves_state = refl; leaves_memory = refl; leaves_spent = refl; leaves_steps = refl })
 
 pub trnadulek_run_spec : {M : Type 1} → statement M

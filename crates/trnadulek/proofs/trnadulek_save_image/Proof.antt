@@ -11,11 +11,11 @@ returns c =
     let called = c.before.before in
     let held = called.before.before in
     let branch = held.before in
-    rw (← branch.before.has-codes.ensures, branch.if1.true, ← held.state-of.ensures) called.save-image.ensures
+    rw (← branch.before.has_codes.ensures, branch.if1.true, ← held.state-of.ensures) called.save-image.ensures
 
 returns_2 : tie.Need-returns-2
 unfolding save_block_image_of saved_if
-returns_2 c = rw (← c.before.has-codes.ensures, c.if1.false) exactly
+returns_2 c = rw (← c.before.has_codes.ensures, c.if1.false) exactly
 
 pub trnadulek_save_image_spec : {M : Type 1} → statement M
 trnadulek_save_image_spec =

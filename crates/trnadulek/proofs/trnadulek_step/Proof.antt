@@ -12,7 +12,7 @@ returns c =
     let held = stepped.before.before in
     let branch = held.before.before in
     let told = rw held.state-of.ensures at stepped.step.ensures in
-    rw (← branch.before.has-codes.ensures, branch.if1.true)
+    rw (← branch.before.has_codes.ensures, branch.if1.true)
     (record {
       answers = rw told.answers;
       leaves_state = rw (c.bytes_of.ensures, told.answers);
@@ -23,7 +23,7 @@ returns c =
 returns_2 : tie.Need-returns-2
 unfolding step_block_of step_if
 returns_2 c =
-    rw (← c.before.has-codes.ensures, c.if1.false)
+    rw (← c.before.has_codes.ensures, c.if1.false)
     (record { answers = refl; leaves_state = refl; leaves_memory = refl; leaves_cycles = refl })
 
 pub trnadulek_step_spec : {M : Type 1} → statement M

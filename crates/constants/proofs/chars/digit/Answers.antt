@@ -1,5 +1,4 @@
 -- `digit` counts from the character of 0, or from ten below that of A.
-use borrow.Author.Rules.{rules}
 use borrow.Author.Tests.{le-leb, lt-leb}
 use native.Mathlib.Omega.{arith}
 use Rattle.constants.specs.Constant.{digit_of, digit_if}

@@ -1,5 +1,4 @@
 -- `is_digit` makes the tests of the base.
-use borrow.Author.Rules.{rules}
 use Rattle.constants.specs.Constant.{is_digit}
 use Rattle.constants.specs.Sums.{base_if}
 use Rattle.constants.proofs.chars.is_digit.Goals as goal

@@ -1,5 +1,4 @@
 -- `begun` makes the tests one after the other.
-use borrow.Author.Rules.{rules}
 use borrow.Author.Tests.{eq-eqb, ne_eqb}
 use mathlib.Core.Path.{sym, ◌∙◌}
 use Rattle.constants.specs.Forms.{begun_at, stand_if}

@@ -1,5 +1,4 @@
 -- `ended` makes the tests one after the other.
-use borrow.Author.Rules.{rules}
 use Rattle.constants.specs.Forms.{form_by, form_if}
 use Rattle.constants.proofs.forms.ended.Goals as goal
 

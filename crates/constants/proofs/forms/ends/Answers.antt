@@ -1,5 +1,4 @@
 -- `ends` goes by where the reading stands.
-use borrow.Author.Rules.{rules}
 use Rattle.constants.specs.Forms.{ends_at}
 use Rattle.constants.proofs.forms.ends.Goals as goal
 

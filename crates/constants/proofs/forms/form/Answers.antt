@@ -1,42 +1,28 @@
--- `form` reads from the left. The loop's invariant: the reading has come to a state, at which the code stands, and what is left makes of it
--- what the whole text is.
-use Prim.Native.Nat.{ℕ, ◌+◌, ◌-◌, ◌≤◌, ◌<◌}
-use borrow.Author.Rules.{rules}
+-- `form` reads from the left.
+use Prim.Native.Nat.{ℕ, ◌+◌, ◌≤◌, ◌<◌}
 use mathlib.Core.Bool.{Bool, true, false}
 use mathlib.Core.List.{List, []}
 use mathlib.Core.Path.{◌≡◌, refl, ap, ◌∙◌}
 use native.Mathlib.Numerals.{add-one}
 use native.Mathlib.Omega.{arith}
 use lib.Dec.{eqb}
-use lib.ListN.{length, get_or, drop, drop_of_length-le}
+use lib.ListN.{length, get_or, drop_of_length-le}
 use lib.Seq.{drop-cons}
-use Rattle.constants.specs.Reading.{State, Wants, Nothing, step, read_from, read_of}
+use Rattle.constants.specs.Reading.{Wants, Nothing, step, read_from, read_of}
 use Rattle.constants.specs.Forms.{StandsAt, stand_after, open_if, open_after, form_in, form_by}
 use Rattle.constants.specs.declared.Stand.{Stand}
 use Rattle.constants.specs.declared.Stand.TheVariants.{Start}
 use Rattle.constants.proofs.Nesting.{Tally, Tallies, wants_nests, pile_nests, behind_nests, deep_after, step_tally}
 use Rattle.constants.proofs.Standing.{step_stands, finished_stands}
+use Rattle.constants.proofs.forms.form.Invariants.{Reached}
 use Rattle.constants.proofs.forms.form.Goals as goal
 
-record Reached (text : List ℕ) (stand : Stand) (opened : ℕ) (deep : Bool) (at : ℕ) : Type 0 where
-  state : State
-  stands : StandsAt state stand
-  tally : Tally state opened deep
-  reads : read_from state (drop at text) ≡ read_of text
-
-abbrev invariant_loop : tie.invariant-loop
-invariant_loop text stand₀ opened₀ deep₀ at₀ stand opened deep at =
-    (at ≤ length text) × (opened ≤ at) × Reached text stand opened deep at
-
-abbrev decreases_loop : tie.decreases-loop
-decreases_loop text stand₀ opened₀ deep₀ at₀ stand opened deep at = length text - at
-
 -- one more character
-further : (text : List ℕ) (stand next : Stand) (opened : ℕ) (deep : Bool) (at : ℕ) → at < length text
-    → next ≡ stand_after stand (get_or text at 0) opened → Reached text stand opened deep at
-    → Reached text next (open_after (get_or text at 0) opened) (deep_after (get_or text at 0) opened deep) (at + 1)
+further : (text : List ℕ) (stand after : Stand) (opened : ℕ) (deep : Bool) (at : ℕ) → at < length text
+    → after ≡ stand_after stand (get_or text at 0) opened → Reached text stand opened deep at
+    → Reached text after (open_after (get_or text at 0) opened) (deep_after (get_or text at 0) opened deep) (at + 1)
 unfolding read_from
-further text stand next opened deep at h e r = record {
+further text stand after opened deep at h e r = record {
   state = step r.state (get_or text at 0);
   stands = rw e (step_stands r.state stand (get_or text at 0) opened deep r.stands r.tally);
   tally = step_tally r.state (get_or text at 0) opened deep r.tally;
@@ -72,8 +58,8 @@ pub loop-at-preserved : goal.loop-at-preserved
 loop-at-preserved c =
     let text = c.args.text.now in (
       omega arith,
-      still_few _ _ _ _ c.Open-after.ensures c.loop-at.invariant.1,
-      rw c.Open-after.ensures (further text _ _ _ _ c.loop-at.at c.loop-at-test.true c.step-stand.ensures c.loop-at.invariant.2),
+      still_few _ _ _ _ c.open_after-opened.ensures c.loop-at.invariant.1,
+      rw c.open_after-opened.ensures (further text _ _ _ _ c.loop-at.at c.loop-at-test.true c.step-stand.ensures c.loop-at.invariant.2),
     )
 
 pub returns : goal.returns

@@ -1,5 +1,4 @@
 -- `step` goes by where the reading stands.
-use borrow.Author.Rules.{rules}
 use borrow.Author.Tests.{eq-eqb, ne_eqb}
 use mathlib.Core.Path.{sym, ◌∙◌}
 use Rattle.constants.specs.Constant.{is_digit}

@@ -1,7 +1,5 @@
--- `digits` takes digits while there are some. The loop's invariant: what is taken, with what it is worth.
-use Prim.Native.Nat.{ℕ, suc, ◌+◌, ◌*◌, ◌-◌, ◌≤◌, ◌<◌}
-use borrow.Author.Rules.{rules}
-use borrow.Author.Tests.{not-true, not-false}
+-- `digits` takes digits while there are some.
+use Prim.Native.Nat.{ℕ, suc, ◌+◌, ◌*◌, ◌≤◌, ◌<◌}
 use mathlib.Core.Bool.{true, false}
 use mathlib.Core.List.{List, [], ◌∷◌, ◌++◌, append_assoc}
 use mathlib.Core.Path.{◌≡◌, refl, sym, ap, ◌∙◌}
@@ -12,23 +10,11 @@ use lib.ListN.{length, get_or, drop, drop_of_length-le, length-append}
 use lib.Seq.{drop-cons}
 use Rattle.digits.specs.Digits.{worth_of}
 use Rattle.constants.specs.Constant.{Base, Decimal, Hexadecimal, is_digit, all_digits, digit_of, base_of, worth}
-use Rattle.constants.specs.Sums.{base_if, clipped, NoDigit, Spans}
+use Rattle.constants.specs.Sums.{clipped, NoDigit, Spans}
 use Rattle.constants.specs.declared.Numeral.{Numeral}
 use Rattle.constants.proofs.Worth.{all_more, worth_clipped}
+use Rattle.constants.proofs.numbers.digits.Invariants.{Taken}
 use Rattle.constants.proofs.numbers.digits.Goals as goal
-
-record Taken (base : Base) (text : List ℕ) (from count at : ℕ) : Type 0 where
-  digits : List ℕ
-  spans : drop from text ≡ digits ++ drop at text
-  all : all_digits base digits ≡ true
-  place : at ≡ from + length digits
-  value : count ≡ clipped (worth base digits)
-
-abbrev invariant_loop : tie.invariant-loop
-invariant_loop text from hexadecimal base value₀ at₀ value at = Taken (base_if hexadecimal) text from value at
-
-abbrev decreases_loop : tie.decreases-loop
-decreases_loop text from hexadecimal base value₀ at₀ value at = length text - at
 
 -- one more digit
 further : (base : Base) (text : List ℕ) (from value at digit next : ℕ) → at < length text → is_digit base (get_or text at 0) ≡ true
@@ -80,7 +66,7 @@ with_digit-value-requires c =
 pub loop-at-preserved : goal.loop-at-preserved
 loop-at-preserved c =
     further _ c.args.text.now _ _ c.loop-at.at _ _ c.loop-at-test.true
-    (sym c.is_digit.ensures ∙ not-false _ c.if-not-is_digit.false) c.digit.ensures
+    (sym c.is_digit.ensures ∙ c.if-not-is_digit.false) c.digit.ensures
     (rw c.base-base.ensures at c.with_digit-value.ensures) c.loop-at.invariant
 
 pub returns-after-loop-at : goal.returns-after-loop-at
@@ -90,4 +76,4 @@ returns-after-loop-at c =
 pub returns-then-not-is_digit : goal.returns-then-not-is_digit
 returns-then-not-is_digit c =
     spanned _ _ _ _ c.loop-at.invariant
-    (other _ _ _ c.loop-at-test.true (sym c.is_digit.ensures ∙ not-true _ c.if-not-is_digit.true))
+    (other _ _ _ c.loop-at-test.true (sym c.is_digit.ensures ∙ c.if-not-is_digit.true))

@@ -1,6 +1,5 @@
 -- `number` takes the digits behind a $, or those here. There are some, since what is read is a constant.
 use Prim.Native.Nat.{ℕ, suc, ◌+◌, ◌≤◌}
-use borrow.Author.Rules.{rules}
 use mathlib.Core.Bool.{Bool, true, false, true≢false}
 use mathlib.Core.List.{List, [], ◌∷◌, ◌++◌}
 use mathlib.Core.Logic.{◌≢◌}
@@ -43,24 +42,24 @@ module _ (text : List ℕ) (from : ℕ) (r : Numeral) (n : NumberAt text from) w
   }
 
   module _ (dollar : get_or text from 0 ≢ 36) where
-    begun-here : (pile : List Behind) (b : Behind)
+    begun_here : (pile : List Behind) (b : Behind)
         → begun pile b (get_or text from 0) ≡ state_if (is_decimal (get_or text from 0)) (Digits pile b Decimal (get_or text from 0 ∷ [])) Stuck
     unfolding begun state_if
-    begun-here pile b = rw (ne_eqb (get_or text from 0) 40 n.other, ne_eqb (get_or text from 0) 36 dollar)
+    begun_here pile b = rw (ne_eqb (get_or text from 0) 40 n.other, ne_eqb (get_or text from 0) 36 dollar)
 
     -- what is read here is a digit
-    digit-here : (t : Bool) → is_decimal (get_or text from 0) ≡ t → t ≡ true
+    digit_here : (t : Bool) → is_decimal (get_or text from 0) ≡ t → t ≡ true
     unfolding state_if
-    digit-here true e = refl
-    digit-here false e =
-        absurd (no_constant (sym (stuck (drop (suc from) text)) ∙ rw (begun-here n.pile n.behind, e) at n.reads))
+    digit_here true e = refl
+    digit_here false e =
+        absurd (no_constant (sym (stuck (drop (suc from) text)) ∙ rw (begun_here n.pile n.behind, e) at n.reads))
 
-    is_digit : is_decimal (get_or text from 0) ≡ true
-    is_digit = digit-here _ refl
+    has_digit : is_decimal (get_or text from 0) ≡ true
+    has_digit = digit_here _ refl
 
     first : (pile : List Behind) (b : Behind) → begun pile b (get_or text from 0) ≡ Digits pile b Decimal (get_or text from 0 ∷ [])
     unfolding state_if
-    first pile b = begun-here pile b ∙ rw is_digit
+    first pile b = begun_here pile b ∙ rw has_digit
 
     decimal : (digits : List ℕ) → drop from text ≡ digits ++ drop r.at text
         → all_digits Decimal digits ≡ true → NoDigit Decimal (drop r.at text) → r.at ≡ from + length digits
@@ -69,7 +68,7 @@ module _ (text : List ℕ) (from : ℕ) (r : Numeral) (n : NumberAt text from) w
     decimal [] spans all ends place value =
         let none : NoDigit Decimal (get_or text from 0 ∷ drop (suc from) text) =
         subst (NoDigit Decimal) (sym spans ∙ drop-cons text from 0 n.within) ends in
-        absurd (true≢false (sym is_digit ∙ none))
+        absurd (true≢false (sym has_digit ∙ none))
     decimal (d ∷ ds) spans all ends place value =
         let here : get_or text from 0 ∷ drop (suc from) text ≡ d ∷ (ds ++ drop r.at text) = sym (drop-cons text from 0 n.within) ∙ spans in
         let same : get_or text from 0 ≡ d = cc in

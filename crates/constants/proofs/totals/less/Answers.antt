@@ -1,5 +1,4 @@
 -- `less` takes from the low part, and counts one down where that has too little.
-use borrow.Author.Rules.{rules}
 use mathlib.Core.Path.{refl}
 use native.Mathlib.Omega.{arith}
 use Rattle.constants.proofs.Amounts.{less_adds}

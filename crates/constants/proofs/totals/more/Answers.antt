@@ -1,5 +1,4 @@
 -- `more` adds to the low part, and counts one up where that is full.
-use borrow.Author.Rules.{rules}
 use mathlib.Core.Path.{refl}
 use native.Mathlib.Omega.{arith}
 use Rattle.constants.proofs.Amounts.{more_adds}

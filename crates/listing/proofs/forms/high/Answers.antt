@@ -1,5 +1,4 @@
 -- `high` writes LDH, or LDIO.
-use borrow.Author.Rules.{rules}
 use mathlib.Core.List.{[], ◌∷◌}
 use Rattle.digits.specs.Ascii.{ascii}
 use Rattle.listing.specs.Forms.{high_text}

@@ -1,5 +1,4 @@
 -- `ld` writes its two letters.
-use borrow.Author.Rules.{rules}
 use mathlib.Core.List.{[], ◌∷◌}
 use Rattle.digits.specs.Ascii.{ascii}
 use Rattle.listing.proofs.Texts.{byte_text, then}

@@ -1,5 +1,4 @@
 -- `load` writes LD, and how HL moves in the old edition.
-use borrow.Author.Rules.{rules}
 use Rattle.listing.specs.Forms.{load_text}
 use Rattle.listing.proofs.Texts.{then}
 use Rattle.listing.proofs.forms.load.Goals as goal

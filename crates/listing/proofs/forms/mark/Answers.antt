@@ -1,6 +1,6 @@
 -- `mark` writes what a character stands for.
+use native.Mathlib.Omega.{arith}
 use Prim.Native.Nat.{ℕ}
-use borrow.Author.Rules.{rules}
 use borrow.Author.Tests.{ne_eqb}
 use mathlib.Core.Logic.{◌≢◌}
 use mathlib.Core.Path.{◌≡◌}
@@ -54,8 +54,7 @@ returns-in-119 c = told (mark_text _) _ c.in-119.is c.hex_word-in-119.ensures
 
 pub returns-in_default : goal.returns-in_default
 returns-in_default c =
-    let none = c.in_default.rest in
     rw
-    (other _ _ none.0.0.0.0.0.0.1 none.0.0.0.0.0.1 none.0.0.0.0.1
-    none.0.0.0.1 none.0.0.1 none.0.1 none.1)
+    (other _ c.args.m (omega arith) (omega arith) (omega arith)
+    (omega arith) (omega arith) (omega arith) (omega arith))
     c.named.ensures

@@ -1,30 +1,20 @@
--- `marks` writes character after character. The loop's invariant: what is left, written behind what is there, gives the whole.
-use Prim.Native.Nat.{◌≤◌, ◌-◌}
-use mathlib.Core.Path.{◌≡◌, refl, ◌∙◌}
-use borrow.Author.Rules.{rules}
+-- `marks` writes character after character.
+use mathlib.Core.Path.{refl}
 use native.Mathlib.Omega.{arith}
-use lib.ListN.{length, drop}
-use Rattle.listing.specs.Lines.{joined}
-use Rattle.listing.specs.Forms.{mark_text, marks_text}
-use Rattle.listing.specs.Written.{cursor, written}
-use Rattle.listing.proofs.Texts.{kept, each_next, finished}
+use Rattle.listing.specs.Forms.{marks_text}
+use Rattle.listing.proofs.Texts.{each_next, finished}
 use Rattle.listing.proofs.forms.marks.Goals as goal
 
-abbrev invariant_loop : tie.invariant-loop
-invariant_loop o form at out₀ next₀ i₀ out next i =
-    (i ≤ length form) × (written (joined (mark_text o) (drop i form)) (cursor next out) ≡ written (joined (mark_text o) form) (cursor at out₀)) × (length out ≡ length out₀)
-
-abbrev decreases_loop : tie.decreases-loop
-decreases_loop o form at out₀ next₀ i₀ out next i = length form - i
-
 pub loop-i-init : goal.loop-i-init
-loop-i-init c = (omega arith, refl, refl)
+loop-i-init c = record { within = omega arith; left = refl }
 
 pub loop-i-preserved : goal.loop-i-preserved
 loop-i-preserved c =
-    let inv = c.loop-i.invariant in
-    (omega arith, each_next _ _ _ _ _ c.loop-i-test.true c.mark-next.ensures inv.1, kept _ _ c.mark-next.ensures ∙ inv.2)
+    record {
+      within = omega arith;
+      left = each_next _ _ _ _ _ c.loop-i-test.true c.mark-next.ensures c.loop-i.invariant.left;
+    }
 
 pub returns : goal.returns
 unfolding marks_text
-returns c = finished _ _ _ _ c.loop-i-test.false c.loop-i.invariant.1
+returns c = finished _ _ _ _ c.loop-i-test.false c.loop-i.invariant.left

@@ -1,5 +1,4 @@
 -- `name` writes four characters of the names.
-use borrow.Author.Rules.{rules}
 use Rattle.listing.specs.Forms.{name_in}
 use Rattle.listing.proofs.Texts.{span}
 use Rattle.listing.proofs.forms.name.Goals as goal

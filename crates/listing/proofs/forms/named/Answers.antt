@@ -1,6 +1,6 @@
 -- `named` writes the name that a mark stands for.
+use native.Mathlib.Omega.{arith}
 use Prim.Native.Nat.{ℕ}
-use borrow.Author.Rules.{rules}
 use borrow.Author.Tests.{ne_eqb}
 use mathlib.Core.List.{[], ◌∷◌}
 use mathlib.Core.Logic.{◌≢◌}
@@ -31,48 +31,57 @@ plain e op m a c d i k l o p q t y z =
       ne_eqb m 122 z,
     )
 
-pub shape_of-out-in-105 : goal.shape_of-out-in-105
+pub returns-in-97 : goal.returns-in-97
 unfolding named_text text_if ascii
-shape_of-out-in-105 c = told (named_text _ _) _ c.in-105.keys1 c.name.ensures
+returns-in-97 c = told (named_text _ _) _ c.in-97.is c.name.ensures
 
-pub shape_of-out-in-107 : goal.shape_of-out-in-107
+pub returns-in-99 : goal.returns-in-99
 unfolding named_text text_if ascii
-shape_of-out-in-107 c = told (named_text _ _) _ c.in-107.keys2 c.name2.ensures
+returns-in-99 c = told (named_text _ _) _ c.in-99.is c.name-in-99.ensures
 
-pub shape_of-out-in-108 : goal.shape_of-out-in-108
+pub returns-in-100 : goal.returns-in-100
 unfolding named_text text_if ascii
-shape_of-out-in-108 c = told (named_text _ _) _ c.in-108.keys3 c.ld.ensures
+returns-in-100 c = told (named_text _ _) _ c.in-100.is c.ld.ensures
 
-pub shape_of-out-in-111 : goal.shape_of-out-in-111
+pub returns-in-105 : goal.returns-in-105
 unfolding named_text text_if ascii
-shape_of-out-in-111 c = told (named_text _ _) _ c.in-111.keys4 c.high.ensures
+returns-in-105 c = told (named_text _ _) _ c.in-105.is c.high.ensures
 
-pub shape_of-out-in-112 : goal.shape_of-out-in-112
+pub returns-in-107 : goal.returns-in-107
 unfolding named_text text_if ascii
-shape_of-out-in-112 c = told (named_text _ _) _ c.in-112.keys5 (byte_text _ _ (rw c.glyph.ensures at c.push.ensures))
+returns-in-107 c = told (named_text _ _) _ c.in-107.is (byte_text _ _ (rw c.glyph.ensures at c.push.ensures))
 
-pub shape_of-out-in-113 : goal.shape_of-out-in-113
+pub returns-in-108 : goal.returns-in-108
 unfolding named_text text_if ascii
-shape_of-out-in-113 c = told (named_text _ _) _ c.in-113.keys6 c.load.ensures
+returns-in-108 c = told (named_text _ _) _ c.in-108.is c.load.ensures
 
-pub shape_of-out-in-116 : goal.shape_of-out-in-116
+pub returns-in-111 : goal.returns-in-111
 unfolding named_text text_if ascii
-shape_of-out-in-116 c = told (named_text _ _) _ c.in-116.keys7 c.name3.ensures
+returns-in-111 c = told (named_text _ _) _ c.in-111.is c.name-in-111.ensures
 
-pub shape_of-out-in-121 : goal.shape_of-out-in-121
+pub returns-in-112 : goal.returns-in-112
 unfolding named_text text_if ascii
-shape_of-out-in-121 c = told (named_text _ _) _ c.in-121.keys8 c.name4.ensures
+returns-in-112 c = told (named_text _ _) _ c.in-112.is c.name-in-112.ensures
 
-pub shape_of-out-in-122 : goal.shape_of-out-in-122
+pub returns-in-113 : goal.returns-in-113
 unfolding named_text text_if ascii
-shape_of-out-in-122 c = told (named_text _ _) _ c.in-122.keys9 c.name5.ensures
+returns-in-113 c = told (named_text _ _) _ c.in-113.is c.name-in-113.ensures
 
-pub shape_of-out-in_default : goal.shape_of-out-in_default
+pub returns-in-116 : goal.returns-in-116
 unfolding named_text text_if ascii
-shape_of-out-in_default c = told (named_text _ _) _ c.in_default.keys10 c.pointer.ensures
+returns-in-116 c = told (named_text _ _) _ c.in-116.is c.pointer.ensures
 
--- LEFT (λ c. let put = c.before.before in told (named_text _ _) _ put.before.before.match.keys11 put.register.ensures)
+pub returns-in-121 : goal.returns-in-121
+unfolding named_text text_if ascii
+returns-in-121 c = told (named_text _ _) _ c.in-121.is c.register.ensures
 
--- LEFT (λ c. let put = c.before.before in told (named_text _ _) _ put.before.before.match.keys12 put.register2.ensures)
+pub returns-in-122 : goal.returns-in-122
+unfolding named_text text_if ascii
+returns-in-122 c = told (named_text _ _) _ c.in-122.is c.register-in-122.ensures
 
--- LEFT itself
+pub returns-in_default : goal.returns-in_default
+returns-in_default c =
+    rw
+    (plain _ _ c.args.mark (omega arith) (omega arith) (omega arith) (omega arith) (omega arith)
+    (omega arith) (omega arith) (omega arith) (omega arith) (omega arith) (omega arith) (omega arith))
+    (byte_text _ _ c.push-in_default.ensures)

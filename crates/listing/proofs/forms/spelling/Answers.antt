@@ -1,5 +1,4 @@
 -- `spelling` writes eight characters of the table.
-use borrow.Author.Rules.{rules}
 use Rattle.listing.specs.Forms.{form_in}
 use Rattle.listing.proofs.Texts.{span}
 use Rattle.listing.proofs.forms.spelling.Goals as goal

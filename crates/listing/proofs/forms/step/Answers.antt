@@ -1,6 +1,6 @@
 -- `step` writes how HL moves, where it does.
+use native.Mathlib.Omega.{arith}
 use Prim.Native.Nat.{ℕ}
-use borrow.Author.Rules.{rules}
 use borrow.Author.Tests.{ne_eqb}
 use mathlib.Core.List.{[]}
 use mathlib.Core.Logic.{◌≢◌}
@@ -16,11 +16,11 @@ stays p up down = rw (ne_eqb p 2 up, ne_eqb p 3 down)
 
 pub returns-in-2 : goal.returns-in-2
 unfolding step_text text_if ascii
-returns-in-2 c = let put = c.before.before in told step_text _ put.before.before.match.keys1 (byte_text _ _ put.push.ensures)
+returns-in-2 c = told step_text _ c.in-2.is (byte_text _ _ c.push.ensures)
 
 pub returns-in-3 : goal.returns-in-3
 unfolding step_text text_if ascii
-returns-in-3 c = let put = c.before.before in told step_text _ put.before.before.match.keys2 (byte_text _ _ put.push2.ensures)
+returns-in-3 c = told step_text _ c.in-3.is (byte_text _ _ c.push-in-3.ensures)
 
 pub returns-in_default : goal.returns-in_default
-returns-in_default c = rw (stays _ c.in_default.rest.0.1 c.in_default.rest.1) (nothing _ _)
+returns-in_default c = rw (stays c.args.p (omega arith) (omega arith)) (nothing _ _)

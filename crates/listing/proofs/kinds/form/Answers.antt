@@ -1,5 +1,4 @@
 -- `form` looks for the prefix first.
-use borrow.Author.Rules.{rules}
 use borrow.Author.Tests.{eq-eqb, ne_eqb}
 use Rattle.listing.specs.Forms.{number_if, form_at}
 use Rattle.listing.proofs.kinds.form.Goals as goal

@@ -1,5 +1,6 @@
 -- `unprefixed` goes by x.
-use borrow.Author.Rules.{rules}
+use Rattle.std.proofs.lemmas.Grind.{common_steps}
+use native.Mathlib.Omega.{arith}
 use borrow.Author.Tests.{eq-eqb, ne_eqb}
 use Rattle.listing.specs.Forms.{number_if, unprefixed_form}
 use Rattle.listing.proofs.kinds.unprefixed.Goals as goal
@@ -22,4 +23,4 @@ returns-in-2 c = rw c.in-2.is
 
 pub returns-in_default : goal.returns-in_default
 unfolding number_if unprefixed_form
-returns-in_default c = let rest = c.in_default.rest in rw (ne_eqb _ 0 rest.0.0.1, ne_eqb _ 1 rest.0.1, ne_eqb _ 2 rest.1) c.x3.ensures
+returns-in_default c = grind (arith, common_steps)

@@ -1,6 +1,5 @@
 -- `line` writes the columns of the line that it reads.
 use Prim.Native.Nat.{ℕ, ◌+◌, ◌*◌, ◌<◌, ◌≤◌}
-use borrow.Author.Rules.{rules}
 use mathlib.Core.List.{List, [], ◌∷◌, ◌++◌}
 use mathlib.Core.Path.{◌≡◌, sym, ◌∙◌, ap}
 use native.Mathlib.Omega.{arith}
@@ -31,7 +30,7 @@ slice_bounds-bytes-end c =
 
 pub spelling-end-requires : goal.spelling-end-requires
 spelling-end-requires c =
-    room _ c.args.table.now c.read-taken.ensures.form c.requires.0.size
+    room _ c.args.table.now c.read-taken.ensures.form c.requires.forms.size
 
 pub returns : goal.returns
 returns c =
@@ -39,9 +38,9 @@ returns c =
     record {
       takes = sym (ap length reads.takes ∙ length-take-le _ c.args.bytes.now reads.fits);
       reaches =
-          rw (columns _ _ _ _ _ reads c.requires.0) at
+          rw (columns _ _ _ _ _ reads c.requires.forms) at
           (then _ _ _ c.word.ensures
-          (then (space ∷ []) _ _ (byte_text _ _ c.push.ensures)
+          (then (space ∷ []) _ _ (byte_text _ _ c.push-column.ensures)
           (then _ _ _ c.bytes-space.ensures
           (then (space ∷ []) _ _ (byte_text _ _ c.push-name.ensures)
           (then _ (newline ∷ []) _ c.spelling-end.ensures (byte_text _ _ c.push.ensures))))));

@@ -1,6 +1,5 @@
 -- `list` measures the text, and writes it where there is room.
 use Prim.Native.Nat.{ℕ, ◌≤◌, ◌<◌}
-use borrow.Author.Rules.{rules}
 use borrow.Author.Tests.{leb-true, leb-false}
 use mathlib.Core.Bool.{Bool, true, false}
 use mathlib.Core.List.{List}
@@ -58,7 +57,7 @@ write-requires c = c.requires
 
 pub returns-in-Fits : goal.returns-in-Fits
 returns-in-Fits c =
-    listed (listing_of _ _ _) _ _ _ _ (sym c.decreases.given.1 ∙ c.measure-measured.ensures) c.write.ensures
+    listed (listing_of _ _ _) _ _ _ _ (sym c.in-Fits.is ∙ c.measure-measured.ensures) c.write.ensures
 
 pub returns-in-TooLong : goal.returns-in-TooLong
 returns-in-TooLong c = refused (listing_of _ _ _) _ (sym c.in-TooLong.is ∙ c.measure-measured.ensures)

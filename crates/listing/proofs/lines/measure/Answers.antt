@@ -1,5 +1,4 @@
--- `measure` adds the lines' lengths up while there is room. The loop's invariant: what is added up, and the text of what is left,
--- are as long as the whole.
+-- `measure` adds the lines' lengths up while there is room.
 use Prim.Native.Nat.{ℕ, ◌+◌, ◌-◌, ◌≤◌, ◌<◌}
 use borrow.Author.Rules.{rules}
 use borrow.Author.Tests.{le-leb, lt-leb}
@@ -16,16 +15,6 @@ use Rattle.listing.specs.declared.Measured.TheVariants.{Fits, TooLong}
 use Rattle.listing.specs.declared.Edition.{Edition}
 use Rattle.listing.proofs.Order.{line_here, count_here, text_left, left_here, few_here, some_here, on_here, text_here}
 use Rattle.listing.proofs.lines.measure.Goals as goal
-
-abbrev invariant_loop : tie.invariant-loop
-invariant_loop table edition part first room address₀ from₀ length₀ address from count =
-    (from ≤ length part)
-    × (address < 65536)
-    × (count ≤ room)
-    × (count + length (text_left edition part from address) ≡ length (listing_of edition first part))
-
-abbrev decreases_loop : tie.decreases-loop
-decreases_loop table edition part first room address₀ from₀ length₀ address from count = length part - from
 
 -- a turn of the loop: the line here has its text, and the rest has the rest
 module _ (e : Edition) (part : List ℕ) (from a : ℕ) (address : a < 65536) (here : from < length part) (count total wide : ℕ)
@@ -55,47 +44,49 @@ all_fits e part from a count total room past fits left =
 
 pub loop-from-init : goal.loop-from-init
 unfolding listing_of lines_of
-loop-from-init c = (omega arith, search rules, omega arith, zero-add _)
+loop-from-init c = record { within = omega arith; address = search rules; room = omega arith; total = zero-add _ }
 
 pub width-next-requires : goal.width-next-requires
 width-next-requires c =
-    (c.requires, left_here c.args.edition c.args.part.now c.loop-from.from c.loop-from.address c.loop-from.invariant.1 c.loop-from-test.true)
+    record { forms = c.requires; bytes_nonzero = left_here c.args.edition c.args.part.now c.loop-from.from c.loop-from.address c.loop-from.invariant.address c.loop-from-test.true }
 
 pub returns-then-room-length : goal.returns-then-room-length
 returns-then-room-length c =
-    too_long _ c.args.part.now c.loop-from.from c.loop-from.address c.loop-from.invariant.1
-    c.loop-from-test.true _ _ _ c.loop-from.invariant.3 c.width-next.ensures.0 _ c.if-room-length.true
+    too_long _ c.args.part.now c.loop-from.from c.loop-from.address c.loop-from.invariant.address
+    c.loop-from-test.true _ _ _ c.loop-from.invariant.total c.width-next.ensures.0 _ c.if-room-length.true
 
 pub overflow_cast-next : goal.overflow_cast-next
 overflow_cast-next c =
-    let few = few_here c.args.edition c.args.part.now c.loop-from.from c.loop-from.address c.loop-from.invariant.1
+    let few = few_here c.args.edition c.args.part.now c.loop-from.from c.loop-from.address c.loop-from.invariant.address
     c.loop-from-test.true in
     record { fits = rw c.width-next.ensures.1 (omega (arith, few)) }
 
 pub overflow_add-from : goal.overflow_add-from
 overflow_add-from c =
-    let on = on_here c.args.edition c.args.part.now c.loop-from.from c.loop-from.address c.loop-from.invariant.1
+    let on = on_here c.args.edition c.args.part.now c.loop-from.from c.loop-from.address c.loop-from.invariant.address
     c.loop-from-test.true in
     record { fits = rw c.width-next.ensures.1 (omega (arith, on)) }
 
 pub loop-from-smaller : goal.loop-from-smaller
 loop-from-smaller c =
-    let some = some_here c.args.edition c.args.part.now c.loop-from.from c.loop-from.address c.loop-from.invariant.1
+    let some = some_here c.args.edition c.args.part.now c.loop-from.from c.loop-from.address c.loop-from.invariant.address
     c.loop-from-test.true in
     rw c.width-next.ensures.1 (omega (arith, some))
 
 pub loop-from-preserved : goal.loop-from-preserved
 loop-from-preserved c =
     let part = c.args.part.now in
-    let on = c.further-address.ensures in (
-      rw c.width-next.ensures.1 (on_here _ part c.loop-from.from c.loop-from.address c.loop-from.invariant.1 c.loop-from-test.true),
-      rw on (further_below _ _),
-      omega arith,
-      added _ part c.loop-from.from c.loop-from.address c.loop-from.invariant.1 c.loop-from-test.true _ _ _ c.loop-from.invariant.3
-          c.width-next.ensures.0 _ _ c.width-next.ensures.1 on,
-    )
+    let on = c.further-address.ensures in
+    record {
+      within = rw c.width-next.ensures.1 (on_here _ part c.loop-from.from c.loop-from.address c.loop-from.invariant.address c.loop-from-test.true);
+      address = rw on (further_below _ _);
+      room = omega arith;
+      total =
+          added _ part c.loop-from.from c.loop-from.address c.loop-from.invariant.address c.loop-from-test.true _ _ _ c.loop-from.invariant.total
+          c.width-next.ensures.0 _ _ c.width-next.ensures.1 on;
+    }
 
 pub returns : goal.returns
 returns c =
     all_fits _ c.args.part.now c.loop-from.from c.loop-from.address _ _ _ c.loop-from-test.false
-    c.loop-from.invariant.2 c.loop-from.invariant.3
+    c.loop-from.invariant.room c.loop-from.invariant.total

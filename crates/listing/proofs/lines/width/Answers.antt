@@ -1,5 +1,4 @@
 -- `width` writes a line where there is room for any, and answers its length.
-use borrow.Author.Rules.{rules}
 use Rattle.listing.proofs.Texts.{written_front}
 use Rattle.listing.proofs.lines.width.Goals as goal
 

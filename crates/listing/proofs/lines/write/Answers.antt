@@ -1,28 +1,18 @@
--- `write` writes line after line. The loop's invariant: the text of what is left, written behind what is there, gives the whole.
-use Prim.Native.Nat.{ℕ, ◌+◌, ◌-◌, ◌≤◌, ◌<◌}
+-- `write` writes line after line.
+use Prim.Native.Nat.{ℕ, ◌+◌, ◌≤◌, ◌<◌}
 use borrow.Author.Rules.{rules}
 use mathlib.Core.List.{List}
-use mathlib.Core.Path.{◌≡◌, refl, sym, ◌∙◌}
+use mathlib.Core.Path.{◌≡◌, refl, sym}
 use native.Mathlib.Omega.{arith}
 use lib.ListN.{length, drop_of_length-le}
 use Rattle.arith.specs.Words.{further}
 use Rattle.arith.proofs.Laws.{further_below}
 use Rattle.listing.specs.Lines.{lines_from, lines_of, joined, line_text, listing_of}
 use Rattle.listing.specs.Written.{Cursor, cursor, written, Reaches}
-use Rattle.listing.proofs.Texts.{written_append, kept}
+use Rattle.listing.proofs.Texts.{written_append}
 use Rattle.listing.specs.declared.Edition.{Edition}
 use Rattle.listing.proofs.Order.{line_here, count_here, text_left, left_here, few_here, some_here, on_here, text_here}
 use Rattle.listing.proofs.lines.write.Goals as goal
-
-abbrev invariant_loop : tie.invariant-loop
-invariant_loop table edition part first out₀ address₀ from₀ at₀ out address from at =
-    (from ≤ length part)
-    × (address < 65536)
-    × (length out ≡ length out₀)
-    × (written (text_left edition part from address) (cursor at out) ≡ written (listing_of edition first part) (cursor 0 out₀))
-
-abbrev decreases_loop : tie.decreases-loop
-decreases_loop table edition part first out₀ address₀ from₀ at₀ out address from at = length part - from
 
 -- a turn of the loop: the line here is written, and the rest is left
 onward : (e : Edition) (part : List ℕ) (from a : ℕ) → a < 65536 → from < length part → (c whole : Cursor) (bytes next : ℕ) {at : ℕ} {out : List ℕ}
@@ -46,28 +36,28 @@ further_on from bytes count end b h = rw b h
 
 pub loop-from-init : goal.loop-from-init
 unfolding listing_of lines_of
-loop-from-init c = (omega arith, search rules, refl, refl)
+loop-from-init c = record { within = omega arith; address = search rules; left = refl }
 
 pub line-next-requires : goal.line-next-requires
 line-next-requires c =
-    (c.requires, left_here c.args.edition c.args.part.now c.loop-from.from c.loop-from.address c.loop-from.invariant.1 c.loop-from-test.true)
+    record { forms = c.requires; bytes_nonzero = left_here c.args.edition c.args.part.now c.loop-from.from c.loop-from.address c.loop-from.invariant.address c.loop-from-test.true }
 
 pub overflow_cast-next : goal.overflow_cast-next
 overflow_cast-next c =
-    let few = few_here c.args.edition c.args.part.now c.loop-from.from c.loop-from.address c.loop-from.invariant.1
+    let few = few_here c.args.edition c.args.part.now c.loop-from.from c.loop-from.address c.loop-from.invariant.address
     c.loop-from-test.true in
     record { fits = rw c.line-next.ensures.takes (omega (arith, few)) }
 
 pub overflow_add-from : goal.overflow_add-from
 overflow_add-from c =
-    let on = on_here c.args.edition c.args.part.now c.loop-from.from c.loop-from.address c.loop-from.invariant.1
+    let on = on_here c.args.edition c.args.part.now c.loop-from.from c.loop-from.address c.loop-from.invariant.address
     c.loop-from-test.true in
     let most : length c.args.part.now < 18446744073709551616 = search rules in
     record { fits = omega (arith, further_on c.loop-from.from _ _ _ c.line-next.ensures.takes on, most) }
 
 pub loop-from-smaller : goal.loop-from-smaller
 loop-from-smaller c =
-    let some = some_here c.args.edition c.args.part.now c.loop-from.from c.loop-from.address c.loop-from.invariant.1
+    let some = some_here c.args.edition c.args.part.now c.loop-from.from c.loop-from.address c.loop-from.invariant.address
     c.loop-from-test.true in
     rw c.line-next.ensures.takes (omega (arith, some))
 
@@ -75,15 +65,16 @@ pub loop-from-preserved : goal.loop-from-preserved
 loop-from-preserved c =
     let part = c.args.part.now in
     let put = c.line-next.ensures in
-    let on = c.further-address.ensures in (
-      rw put.takes (on_here _ part c.loop-from.from c.loop-from.address c.loop-from.invariant.1 c.loop-from-test.true),
-      rw on (further_below _ _),
-      kept _ _ put.reaches ∙ c.loop-from.invariant.2,
-      onward _ part c.loop-from.from c.loop-from.address c.loop-from.invariant.1 c.loop-from-test.true _ _ _ _ put.takes on
-          put.reaches c.loop-from.invariant.3,
-    )
+    let on = c.further-address.ensures in
+    record {
+      within = rw put.takes (on_here _ part c.loop-from.from c.loop-from.address c.loop-from.invariant.address c.loop-from-test.true);
+      address = rw on (further_below _ _);
+      left =
+          onward _ part c.loop-from.from c.loop-from.address c.loop-from.invariant.address c.loop-from-test.true _ _ _ _ put.takes on
+          put.reaches c.loop-from.invariant.left;
+    }
 
 pub returns : goal.returns
 returns c =
     all_written _ c.args.part.now c.loop-from.from c.loop-from.address _ c.loop-from-test.false
-    c.loop-from.invariant.3
+    c.loop-from.invariant.left

@@ -1,5 +1,4 @@
 -- `byte_at` reads a byte, or 0 past the end.
-use borrow.Author.Rules.{rules}
 use mathlib.Core.Path.{refl, sym}
 use lib.ListN.{get_or-eq_default}
 use Rattle.digits.specs.Digits.{byte_in}

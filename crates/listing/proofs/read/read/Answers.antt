@@ -42,7 +42,7 @@ returns-then-is_data c =
 
 pub returns : goal.returns
 returns c =
-    as_insn _ _ _ c.requires _ _ _ _ _ (search rules) (search rules) c.byte_at.ensures
+    as_insn _ _ _ c.requires _ _ _ _ _ (search rules) (search rules) c.byte_at-op.ensures
     c.byte_at-n8.ensures c.form-form.ensures c.size-size.ensures c.is_data.ensures
     _ _ _ c.fields.ensures (rw c.byte_at.ensures at c.word.ensures)
     c.further.ensures c.if-is_data.false

@@ -1,5 +1,4 @@
 -- `byte` writes the high digit, then the low one.
-use borrow.Author.Rules.{rules}
 use native.Mathlib.Nat.{div-one}
 use Rattle.digits.specs.Digits.{digits_of}
 use Rattle.digits.specs.Numerals.{hex_text}
@@ -10,5 +9,5 @@ pub returns : goal.returns
 unfolding hex_text digits_of
 returns c =
     rw div-one
-    (then _ _ _ (byte_text _ _ (rw c.glyph.ensures at c.push.ensures))
+    (then _ _ _ (byte_text _ _ (rw c.glyph.ensures at c.push-low.ensures))
     (byte_text _ _ (rw c.glyph-2.ensures at c.push.ensures)))

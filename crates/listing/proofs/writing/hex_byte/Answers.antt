@@ -1,5 +1,4 @@
 -- `hex_byte` writes $ and two digits.
-use borrow.Author.Rules.{rules}
 use Rattle.digits.specs.Ascii.{ascii}
 use Rattle.listing.specs.Spelling.{hex}
 use Rattle.listing.proofs.Texts.{then, byte_text}

@@ -1,5 +1,4 @@
 -- `hex_word` writes $ and four digits.
-use borrow.Author.Rules.{rules}
 use Rattle.digits.specs.Ascii.{ascii}
 use Rattle.listing.specs.Spelling.{hex}
 use Rattle.listing.proofs.Texts.{then, byte_text}

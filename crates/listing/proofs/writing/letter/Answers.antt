@@ -1,5 +1,4 @@
 -- `letter` leaves a point out.
-use borrow.Author.Rules.{rules}
 use borrow.Author.Tests.{eq-eqb, ne_eqb}
 use Rattle.listing.specs.Forms.{text_if, letter_text}
 use Rattle.listing.proofs.Texts.{byte_text, nothing}

@@ -1,5 +1,4 @@
 -- `push` meets its contract: a byte is written while there is room.
-use borrow.Author.Rules.{rules}
 use borrow.Author.Tests.{lt-ltb, le-ltb}
 use mathlib.Core.Path.{refl}
 use Rattle.listing.specs.Written.{pushed_if, pushed}
@@ -7,8 +6,8 @@ use Rattle.listing.proofs.writing.push.Goals as goal
 
 pub returns-then-at-out : goal.returns-then-at-out
 unfolding pushed_if pushed
-returns-then-at-out c = rw (lt-ltb _ _ c.if1.true) (record { place = refl; left = refl })
+returns-then-at-out c = rw (lt-ltb _ _ c.if-at-out.true) (record { place = refl; left = refl })
 
 pub returns : goal.returns
 unfolding pushed_if pushed
-returns c = rw (le-ltb _ _ c.if1.false) (record { place = refl; left = refl })
+returns c = rw (le-ltb _ _ c.if-at-out.false) (record { place = refl; left = refl })

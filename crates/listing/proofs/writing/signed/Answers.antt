@@ -1,6 +1,5 @@
 -- `signed` writes a minus before what is negative.
 use Prim.Native.Nat.{◌+◌, ◌-◌}
-use borrow.Author.Rules.{rules}
 use borrow.Author.Tests.{lt-ltb, le-ltb}
 use mathlib.Core.Path.{◌≡◌}
 use native.Mathlib.Omega.{arith}

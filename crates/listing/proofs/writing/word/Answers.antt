@@ -1,6 +1,5 @@
 -- `word` writes the high byte, then the low one.
 use Prim.Native.Nat.{ℕ, ◌/◌, ◌%◌, ◌^◌}
-use borrow.Author.Rules.{rules}
 use mathlib.Core.List.{[], ◌∷◌, ◌++◌}
 use mathlib.Core.Path.{◌≡◌}
 use native.Mathlib.Omega.{arith}
@@ -23,5 +22,5 @@ word_digits v =
 pub returns : goal.returns
 returns c =
     rw (word_digits _)
-    (then _ _ _ (rw c.high.ensures at c.byte.ensures)
+    (then _ _ _ (rw c.high.ensures at c.byte-low.ensures)
     (rw c.low.ensures at c.byte.ensures))

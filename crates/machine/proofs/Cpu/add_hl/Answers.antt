@@ -1,5 +1,4 @@
 -- `add_hl` meets its contract.
-use borrow.Author.Rules.{rules}
 use Rattle.machine.specs.Execute.{added_to_hl_of}
 use Rattle.machine.specs.State.{with_hl}
 use Rattle.machine.proofs.Cpu.add_hl.Goals as goal

@@ -1,5 +1,4 @@
 -- `add_sp` meets its contract.
-use borrow.Author.Rules.{rules}
 use Rattle.machine.specs.Execute.{added_to_sp_of}
 use Rattle.machine.proofs.Cpu.add_sp.Goals as goal
 

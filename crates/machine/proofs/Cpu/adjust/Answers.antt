@@ -1,5 +1,4 @@
 -- `adjust` meets its contract.
-use borrow.Author.Rules.{rules}
 use Rattle.machine.specs.Execute.{result_of}
 use Rattle.machine.proofs.Cpu.adjust.Goals as goal
 

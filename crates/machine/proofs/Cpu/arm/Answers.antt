@@ -1,5 +1,4 @@
 -- `arm` meets its contract.
-use borrow.Author.Rules.{rules}
 use Rattle.machine.proofs.Cpu.arm.Goals as goal
 
 pub returns : goal.returns

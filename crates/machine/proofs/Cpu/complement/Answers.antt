@@ -1,5 +1,4 @@
 -- `complement` meets its contract.
-use borrow.Author.Rules.{rules}
 use Rattle.machine.specs.Execute.{complemented_of}
 use Rattle.machine.proofs.Cpu.complement.Goals as goal
 

@@ -1,5 +1,4 @@
 -- `decrease_pair` meets its contract.
-use borrow.Author.Rules.{rules}
 use Rattle.machine.proofs.Cpu.decrease_pair.Goals as goal
 
 pub returns : goal.returns

@@ -1,8 +1,6 @@
 -- `due_step` meets its contract: the idle step, refusal 3, the dispatch and the instruction, each under its tests.
 use mathlib.Core.Bool.{true, ◌&&◌}
-use mathlib.Core.Logic.{⊎_elim}
 use mathlib.Core.Path.{◌≡◌, sym, ◌∙◌}
-use borrow.Author.Tests.{not-false}
 use lib.Dec.{eqb}
 use Rattle.machine.specs.Interrupts.{pending_of, dispatch_due_of}
 use Rattle.machine.specs.Modes.{is_halted}
@@ -11,30 +9,7 @@ use Rattle.machine.proofs.Arming.{being, quiet_settled}
 use Rattle.machine.proofs.Gives.{exactly}
 use Rattle.machine.proofs.Stages.{stage_stopped, stage_dispatch, stage_idle, stage_insn, quiet_rest, stage_quiet}
 use Rattle.machine.proofs.Cpu.due_step.Goals as goal
-
-abbrev start : tie.Joined1 → tie.Start
-start c = c.before.before.before.before
-
--- quiet or not, nothing is left to settle, rest is where the other bytes lie, and the step is the instruction
-carried : (c : tie.Joined1)
-    → (let a = (start c).args in
-    SettledBy c.if1.ime a.self a.mem.now × (c.if1.rest ≡ next_rest a.self)
-    × (due_step a.self a.mem.now ≡ instruction_step a.self a.mem.now))
-unfolding next_rest
-carried c =
-    let a = (start c).args in
-    ⊎_elim
-    (λ w. (
-      being (λ u. SettledBy u a.self a.mem.now) w.12 w.11.ensures,
-      w.13 ∙ w.9.ensures,
-      stage_insn a.self a.mem.now (sym w.5.ensures ∙ w.6.left)
-          (rw (← w.2.ensures) (sym w.7.ensures ∙ w.8.left))
-          (rw (← w.2.ensures, ← w.3.ensures) w.4.left),
-    ))
-    (λ w.
-    let q = c.before.quiet.ensures (not-false _ w.0.left) in
-    (quiet_settled a.self a.mem.now w.1 q.1, w.2 ∙ c.before.before.further.ensures ∙ quiet_rest a.self a.mem.now q.0, stage_quiet a.self a.mem.now q.0 q.1))
-    c.if1.branch
+use Rattle.machine.proofs.Cpu.due_step.Goals.{then-not-quiet+else-is_halted-p+else-is_stopped+else-dispatch_due, else-not-quiet}
 
 pub returns-then-is_halted-p : goal.returns-then-is_halted-p
 returns-then-is_halted-p c =
@@ -64,8 +39,38 @@ returns-then-dispatch_due c =
     )
     exactly
 
-pub instruction_step-requires : goal.instruction_step-requires
-instruction_step-requires c κs = let k = carried c.before in (search rules, (k.1, k.0))
+pub instruction_step-requires-clause-rest_value : goal.instruction_step-requires-clause-rest_value
+unfolding next_rest
+instruction_step-requires-clause-rest_value c =
+    let a = c.args in
+    elim c.if-not-quiet.branch [
+      | then-not-quiet+else-is_halted-p+else-is_stopped+else-dispatch_due w ↦ w.rest-is ∙ w.past_first-rest.ensures
+      | else-not-quiet w ↦
+          let q = c.quiet.ensures w.if-not-quiet.false in
+          w.rest-is ∙ c.further-rest.ensures ∙ quiet_rest a.self a.mem.now q.0
+    ]
+
+pub instruction_step-requires-clause-settled_by : goal.instruction_step-requires-clause-settled_by
+instruction_step-requires-clause-settled_by c =
+    let a = c.args in
+    elim c.if-not-quiet.branch [
+      | then-not-quiet+else-is_halted-p+else-is_stopped+else-dispatch_due w ↦ being (λ u. SettledBy u a.self a.mem.now) w.ime-is w.settled_before-ime.ensures
+      | else-not-quiet w ↦
+          let q = c.quiet.ensures w.if-not-quiet.false in
+          quiet_settled a.self a.mem.now w.ime-is q.1
+    ]
 
 pub returns : goal.returns
-returns c = rw (carried c.before.before.before.before).2 c.instruction_step.ensures
+returns c =
+    let a = c.args in
+    let e : due_step a.self a.mem.now ≡ instruction_step a.self a.mem.now =
+    elim c.if-not-quiet.branch [
+      | then-not-quiet+else-is_halted-p+else-is_stopped+else-dispatch_due w ↦
+          stage_insn a.self a.mem.now (sym w.is_stopped.ensures ∙ w.if-is_stopped.false)
+          (rw (← w.pending-p.ensures) (sym w.dispatch_due.ensures ∙ w.if-dispatch_due.false))
+          (rw (← w.pending-p.ensures, ← w.is_halted.ensures) w.if-is_halted-p.false)
+      | else-not-quiet w ↦
+          let q = c.quiet.ensures w.if-not-quiet.false in stage_quiet a.self a.mem.now q.0 q.1
+    ]
+    in
+    rw e c.instruction_step.ensures

@@ -1,5 +1,4 @@
 -- `halt` meets its contract.
-use borrow.Author.Rules.{rules}
 use borrow.Author.Tests.{eq-eqb, ne_eqb}
 use Rattle.machine.specs.Execute.{halted_by, halted_of}
 use Rattle.machine.specs.Step.{ready_of}

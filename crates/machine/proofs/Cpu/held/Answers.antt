@@ -1,5 +1,4 @@
 -- `held` meets its contract.
-use borrow.Author.Rules.{rules}
 use Rattle.machine.specs.Operands.{held_of}
 use Rattle.machine.proofs.Cpu.held.Goals as goal
 

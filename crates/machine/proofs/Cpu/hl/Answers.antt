@@ -1,5 +1,4 @@
 -- `hl` meets its contract.
-use borrow.Author.Rules.{rules}
 use Rattle.machine.specs.State.{hl_of}
 use Rattle.machine.proofs.Cpu.hl.Goals as goal
 

@@ -1,5 +1,4 @@
 -- `increase_pair` meets its contract.
-use borrow.Author.Rules.{rules}
 use Rattle.machine.proofs.Cpu.increase_pair.Goals as goal
 
 pub returns : goal.returns

@@ -1,5 +1,4 @@
 -- `jump_by_if` meets its contract.
-use borrow.Author.Rules.{rules}
 use Rattle.machine.proofs.Cpu.jump_by_if.Goals as goal
 
 pub returns : goal.returns

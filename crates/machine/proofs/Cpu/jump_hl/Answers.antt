@@ -1,5 +1,4 @@
 -- `jump_hl` meets its contract.
-use borrow.Author.Rules.{rules}
 use Rattle.machine.proofs.Cpu.jump_hl.Goals as goal
 
 pub returns : goal.returns

@@ -1,5 +1,4 @@
 -- `jump_if` meets its contract.
-use borrow.Author.Rules.{rules}
 use Rattle.machine.specs.Execute.{taken_if}
 use Rattle.machine.proofs.Cpu.jump_if.Goals as goal
 

@@ -1,5 +1,4 @@
 -- `load_at` meets its contract.
-use borrow.Author.Rules.{rules}
 use Rattle.machine.proofs.Cpu.load_at.Goals as goal
 
 pub returns : goal.returns

@@ -1,5 +1,4 @@
 -- `load_from` meets its contract.
-use borrow.Author.Rules.{rules}
 use Rattle.machine.specs.Execute.{loaded_from}
 use Rattle.machine.proofs.Cpu.load_from.Goals as goal
 

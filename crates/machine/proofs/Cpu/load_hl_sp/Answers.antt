@@ -1,5 +1,4 @@
 -- `load_hl_sp` meets its contract.
-use borrow.Author.Rules.{rules}
 use Rattle.machine.specs.Execute.{hl_from_sp_of}
 use Rattle.machine.specs.State.{with_hl}
 use Rattle.machine.proofs.Cpu.load_hl_sp.Goals as goal

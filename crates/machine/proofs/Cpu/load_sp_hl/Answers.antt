@@ -1,5 +1,4 @@
 -- `load_sp_hl` meets its contract.
-use borrow.Author.Rules.{rules}
 use Rattle.machine.proofs.Cpu.load_sp_hl.Goals as goal
 
 pub returns : goal.returns

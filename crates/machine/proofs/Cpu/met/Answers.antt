@@ -1,5 +1,4 @@
 -- `met` meets its contract.
-use borrow.Author.Rules.{rules}
 use Rattle.machine.specs.State.{met_of}
 use Rattle.machine.proofs.Cpu.met.Goals as goal
 

@@ -1,5 +1,4 @@
 -- `moved` meets its contract.
-use borrow.Author.Rules.{rules}
 use Rattle.machine.specs.Operands.{moved_of}
 use Rattle.machine.proofs.Cpu.moved.Goals as goal
 

@@ -1,5 +1,4 @@
 -- `pair` meets its contract.
-use borrow.Author.Rules.{rules}
 use Rattle.machine.specs.State.{pair_of}
 use Rattle.machine.proofs.Cpu.pair.Goals as goal
 

@@ -1,5 +1,4 @@
 -- `pointed` meets its contract.
-use borrow.Author.Rules.{rules}
 use Rattle.machine.specs.Operands.{pointed_of}
 use Rattle.machine.proofs.Cpu.pointed.Goals as goal
 

@@ -1,5 +1,4 @@
 -- `pop` meets its contract.
-use borrow.Author.Rules.{rules}
 use Rattle.machine.proofs.Cpu.pop.Goals as goal
 
 pub returns : goal.returns

@@ -1,6 +1,5 @@
 -- `ready` meets its contract.
 use mathlib.Core.Path.{refl}
-use borrow.Author.Rules.{rules}
 use Rattle.machine.specs.Step.{ready_of}
 use Rattle.machine.proofs.Cpu.ready.Goals as goal
 

@@ -1,5 +1,4 @@
 -- `register` meets its contract.
-use borrow.Author.Rules.{rules}
 use Rattle.machine.specs.State.{register_of}
 use Rattle.machine.proofs.Cpu.register.Goals as goal
 

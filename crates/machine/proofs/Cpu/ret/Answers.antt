@@ -1,5 +1,4 @@
 -- `ret` meets its contract.
-use borrow.Author.Rules.{rules}
 use Rattle.machine.proofs.Cpu.ret.Goals as goal
 
 pub returns : goal.returns

@@ -1,5 +1,4 @@
 -- `ret_if` meets its contract.
-use borrow.Author.Rules.{rules}
 use Rattle.machine.specs.Execute.{taken_if}
 use Rattle.machine.proofs.Cpu.ret_if.Goals as goal
 

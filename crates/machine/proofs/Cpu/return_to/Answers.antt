@@ -1,5 +1,4 @@
 -- `return_to` meets its contract.
-use borrow.Author.Rules.{rules}
 use Rattle.machine.specs.Stack.{returned_to}
 use Rattle.machine.proofs.Cpu.return_to.Goals as goal
 

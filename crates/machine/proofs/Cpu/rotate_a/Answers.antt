@@ -1,5 +1,4 @@
 -- `rotate_a` meets its contract.
-use borrow.Author.Rules.{rules}
 use Rattle.machine.specs.Execute.{result_of}
 use Rattle.machine.proofs.Cpu.rotate_a.Goals as goal
 

@@ -1,5 +1,4 @@
 -- `set_carry` meets its contract.
-use borrow.Author.Rules.{rules}
 use Rattle.machine.specs.Execute.{with_carry_of}
 use Rattle.machine.proofs.Cpu.set_carry.Goals as goal
 

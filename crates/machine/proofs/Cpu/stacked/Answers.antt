@@ -1,5 +1,4 @@
 -- `stacked` meets its contract.
-use borrow.Author.Rules.{rules}
 use Rattle.machine.specs.State.{stacked_of}
 use Rattle.machine.proofs.Cpu.stacked.Goals as goal
 

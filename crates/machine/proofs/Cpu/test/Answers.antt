@@ -1,5 +1,4 @@
 -- `test` meets its contract.
-use borrow.Author.Rules.{rules}
 use Rattle.machine.proofs.Cpu.test.Goals as goal
 
 pub returns : goal.returns

@@ -1,5 +1,4 @@
 -- `value` meets its contract.
-use borrow.Author.Rules.{rules}
 use Rattle.machine.specs.Operands.{value_of}
 use Rattle.machine.proofs.Cpu.value.Goals as goal
 

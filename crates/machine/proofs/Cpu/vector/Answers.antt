@@ -1,5 +1,4 @@
 -- `vector` meets its contract.
-use borrow.Author.Rules.{rules}
 use Rattle.machine.specs.Interrupts.{vectored_of}
 use Rattle.machine.proofs.Cpu.vector.Goals as goal
 

@@ -1,5 +1,4 @@
 -- `with_hl` meets its contract.
-use borrow.Author.Rules.{rules}
 use Rattle.machine.specs.State.{with_hl}
 use Rattle.machine.proofs.Cpu.with_hl.Goals as goal
 

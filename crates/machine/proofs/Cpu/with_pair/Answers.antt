@@ -1,5 +1,4 @@
 -- `with_pair` meets its contract.
-use borrow.Author.Rules.{rules}
 use Rattle.machine.specs.State.{with_hl, with_pair}
 use Rattle.machine.proofs.Cpu.with_pair.Goals as goal
 

@@ -1,5 +1,4 @@
 -- `with_register` meets its contract.
-use borrow.Author.Rules.{rules}
 use Rattle.machine.specs.State.{with_register}
 use Rattle.machine.proofs.Cpu.with_register.Goals as goal
 

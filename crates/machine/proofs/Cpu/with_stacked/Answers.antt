@@ -1,5 +1,4 @@
 -- `with_stacked` meets its contract.
-use borrow.Author.Rules.{rules}
 use Rattle.machine.specs.State.{with_hl, with_stacked}
 use Rattle.machine.proofs.Cpu.with_stacked.Goals as goal
 

@@ -1,5 +1,4 @@
 -- `dispatch_due` meets its contract.
-use borrow.Author.Rules.{rules}
 use Rattle.machine.specs.Interrupts.{dispatch_due_of}
 use Rattle.machine.proofs.interrupts.dispatch_due.Goals as goal
 

@@ -1,6 +1,5 @@
 -- `high` meets its contract.
 use mathlib.Core.Path.{refl}
-use borrow.Author.Rules.{rules}
 use Rattle.machine.specs.Execute.{high_address}
 use Rattle.machine.proofs.loads.high.Goals as goal
 

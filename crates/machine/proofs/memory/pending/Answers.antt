@@ -1,5 +1,4 @@
 -- `pending` meets its contract.
-use borrow.Author.Rules.{rules}
 use Rattle.machine.specs.Interrupts.{pending_of}
 use Rattle.machine.proofs.memory.pending.Goals as goal
 

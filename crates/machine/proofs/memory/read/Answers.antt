@@ -1,6 +1,5 @@
 -- `read` meets its contract.
 use mathlib.Core.Path.{refl}
-use borrow.Author.Rules.{rules}
 use Rattle.machine.specs.Memory.{byte_at}
 use Rattle.machine.proofs.memory.read.Goals as goal
 

@@ -1,5 +1,4 @@
 -- `read_word` meets its contract.
-use borrow.Author.Rules.{rules}
 use Rattle.machine.specs.Memory.{word_at}
 use Rattle.machine.proofs.memory.read_word.Goals as goal
 

@@ -1,6 +1,5 @@
 -- `store` meets its contract.
 use mathlib.Core.Path.{refl}
-use borrow.Author.Rules.{rules}
 use Rattle.machine.specs.Memory.{stored}
 use Rattle.machine.proofs.memory.store.Goals as goal
 

@@ -1,5 +1,4 @@
 -- `store_word` meets its contract.
-use borrow.Author.Rules.{rules}
 use Rattle.machine.specs.Memory.{word_stores}
 use Rattle.machine.proofs.memory.store_word.Goals as goal
 

@@ -1,5 +1,4 @@
 -- `armed` meets its contract.
-use borrow.Author.Rules.{rules}
 use Rattle.machine.specs.Modes.{armed_of}
 use Rattle.machine.proofs.modes.armed.Goals as goal
 

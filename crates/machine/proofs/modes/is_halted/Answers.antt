@@ -1,5 +1,4 @@
 -- `is_halted` meets its contract.
-use borrow.Author.Rules.{rules}
 use Rattle.machine.specs.Modes.{is_halted}
 use Rattle.machine.proofs.modes.is_halted.Goals as goal
 

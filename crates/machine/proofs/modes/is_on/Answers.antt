@@ -1,5 +1,4 @@
 -- `is_on` meets its contract.
-use borrow.Author.Rules.{rules}
 use Rattle.machine.specs.Modes.{is_on}
 use Rattle.machine.proofs.modes.is_on.Goals as goal
 

@@ -1,5 +1,4 @@
 -- `is_stopped` meets its contract.
-use borrow.Author.Rules.{rules}
 use Rattle.machine.specs.Modes.{is_stopped}
 use Rattle.machine.proofs.modes.is_stopped.Goals as goal
 

@@ -1,5 +1,4 @@
 -- `settled` meets its contract.
-use borrow.Author.Rules.{rules}
 use Rattle.machine.specs.Modes.{settled_ime}
 use Rattle.machine.proofs.modes.settled.Goals as goal
 

@@ -1,5 +1,4 @@
 -- `operands::operand` meets its contract, by the place. Assumes nothing.
-use borrow.Author.Rules.{rules}
 use Rattle.insn.specs.Grid.{operand_of}
 use Rattle.machine.proofs.operands.operand.Goals as goal
 

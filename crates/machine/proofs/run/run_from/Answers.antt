@@ -1,13 +1,9 @@
--- `run_from` meets its contract. The loop's invariant: memory and F stay valid, the counts stay in their bounds, and what is left
--- of the run gives what the whole run gives. The measure is what is left of the budget.
-use Prim.Native.Nat.{◌+◌, ◌-◌, ◌%◌, ◌≤◌}
-use mathlib.Core.Logic.{◌≢◌}
-use mathlib.Core.Path.{◌≡◌, refl, sym, ◌∙◌, ap}
-use native.Mathlib.Omega.{arith}
-use lib.ListN.{length}
-use Rattle.machine.specs.Memory.{memory_size}
-use Rattle.machine.specs.Run.{run_from}
+-- `run_from` meets its contract.
+use Rattle.std.proofs.Common.{◌≡◌, ◌≢◌, ◌≤◌, sym, ◌∙◌, ap, arith}
+use Rattle.machine.specs.Answers.{Gives}
+use Rattle.machine.specs.Memory.{Memory}
 use Rattle.machine.specs.Step.{due_step}
+use Rattle.machine.specs.declared.Cpu.{Cpu}
 use Rattle.machine.specs.declared.Stepped.{Stepped}
 use Rattle.machine.proofs.Costs.{due_paid}
 use Rattle.machine.proofs.Gives.{exactly}
@@ -16,92 +12,58 @@ use Rattle.machine.proofs.Refused.{due_unmoved}
 use Rattle.machine.proofs.Runs.{run_over, turn_taken, turn_refused}
 use Rattle.machine.proofs.run.run_from.Goals as goal
 
-abbrev invariant_loop : tie.invariant-loop
-invariant_loop mem₀ budget cpu₀ spent₀ steps₀ mem cpu spent steps =
-    (length mem ≡ memory_size) × (cpu.f % 16 ≡ 0) × (spent ≤ budget + 5) × (steps ≤ spent)
-    × (run_from budget budget spent steps cpu mem ≡ run_from budget budget 0 0 cpu₀ mem₀)
+-- a step as the definition has it: its code, and its cycles, 6 at most, and 1 or more where it is accepted
+module _ (s : Cpu) (m left : Memory) (r : Stepped) (g : Gives (due_step s m) r left) where
+  code_told : r.code ≡ (due_step s m).out.code
+  code_told = ap (λ (t : Stepped). t.code) g.answers
 
-abbrev decreases_loop : tie.decreases-loop
-decreases_loop mem₀ budget cpu₀ spent₀ steps₀ mem cpu spent steps = budget - spent
+  cycles_told : r.cycles ≡ (due_step s m).out.cycles
+  cycles_told = ap (λ (t : Stepped). t.cycles) g.answers
 
--- the code of the step is that of the definition
-code_told : (c : tie.After-due-step invariant_loop decreases_loop)
-    → c.due-step.result.code ≡ (due_step c.before.before.before.loop.cpu c.before.before.before.loop.mem).out.code
-code_told c = ap (λ (r : Stepped). r.code) c.due-step.ensures.answers
+  most : r.cycles ≤ 6
+  most = rw cycles_told (due_paid s m).most
 
--- the cycles of the step are those of the definition, 1 to 6 where it is accepted
-cycles_told : (c : tie.After-due-step invariant_loop decreases_loop)
-    → c.due-step.result.cycles ≡ (due_step c.before.before.before.loop.cpu c.before.before.before.loop.mem).out.cycles
-cycles_told c = ap (λ (r : Stepped). r.cycles) c.due-step.ensures.answers
-
-most : (c : tie.After-due-step invariant_loop decreases_loop) → c.due-step.result.cycles ≤ 6
-most c = let l = c.before.before.before in rw (cycles_told c) (due_paid l.loop.cpu l.loop.mem).most
-
-least : (c : tie.After-due-step invariant_loop decreases_loop) → c.due-step.result.code ≡ 0 → 1 ≤ c.due-step.result.cycles
-least c e =
-    let l = c.before.before.before in
-    rw (cycles_told c) ((due_paid l.loop.cpu l.loop.mem).least (sym (code_told c) ∙ e))
-
-pub loop-spent-init : goal.loop-spent-init
-loop-spent-init c = (c.requires.0, c.requires.1.0, omega arith, omega arith, refl)
-
-pub due_step-next-requires : goal.due_step-next-requires
-due_step-next-requires c = c.loop-spent.invariant.0
-
-pub shape_of-mem-then-code-ne0 : goal.shape_of-mem-then-code-ne0
-shape_of-mem-then-code-ne0 c =
-    c.due_step-next.auto.1.0 ∙ c.loop-spent.invariant.0 ∙ sym c.requires.0
+  least : r.code ≡ 0 → 1 ≤ r.cycles
+  least e = rw cycles_told ((due_paid s m).least (sym code_told ∙ e))
 
 pub returns-then-code-ne0 : goal.returns-then-code-ne0
 returns-then-code-ne0 c =
-    let cpu = c.loop-spent.cpu in
-    let mem = c.loop-spent.mem in
-    let ne : (due_step cpu mem).out.code ≢ 0 = λ e. c.if-code-ne0.true (code_told s ∙ e) in
+    let l = c.loop-spent in
+    let told = code_told l.cpu l.mem _ _ c.due_step-next.ensures in
+    let ne : (due_step l.cpu l.mem).out.code ≢ 0 = λ e. c.if-code-ne0.true (told ∙ e) in
     rw (
-      ← c.loop-spent.invariant.4,
-      turn_refused c.args.budget c.loop-spent.spent c.loop-spent.steps cpu mem c.loop-spent.invariant.0 c.loop-spent.invariant.1
-          c.loop-spent-test.true ne,
+      ← l.invariant.4,
+      turn_refused c.args.budget l.spent l.steps l.cpu l.mem l.invariant.0 l.invariant.1 c.loop-spent-test.true ne,
       c.due_step-next.ensures.leaves,
-      (due_unmoved cpu mem).mem ne,
-      code_told s,
+      (due_unmoved l.cpu l.mem).mem ne,
+      told,
     )
     exactly
 
-pub overflow_cast-spent : goal.overflow_cast-spent
-overflow_cast-spent c = search rules
-
 pub overflow_add-spent : goal.overflow_add-spent
-overflow_add-spent c = omega (arith, most c.before.before.before.before.before)
-
-pub overflow_add-steps : goal.overflow_add-steps
-overflow_add-steps c = omega arith
+overflow_add-spent c = omega (arith, most c.loop-spent.cpu c.loop-spent.mem _ _ c.due_step-next.ensures)
 
 pub loop-spent-smaller : goal.loop-spent-smaller
-loop-spent-smaller c = omega (arith, least c.before.before.before.before.before c.if-code-ne0.false)
+loop-spent-smaller c =
+    omega (arith, least c.loop-spent.cpu c.loop-spent.mem _ _ c.due_step-next.ensures c.if-code-ne0.false)
 
 pub loop-spent-preserved : goal.loop-spent-preserved
 loop-spent-preserved c =
-    let cpu = c.loop-spent.cpu in
-    let mem = c.loop-spent.mem in
+    let l = c.loop-spent in
+    let g = c.due_step-next.ensures in
     let e = c.if-code-ne0.false in (
-      c.due_step-next.auto.1.0 ∙ c.loop-spent.invariant.0,
-      rw c.due_step-next.ensures.answers (due_low cpu mem c.loop-spent.invariant.1),
-      omega (arith, most s),
-      omega (arith, least s e),
-      rw (c.due_step-next.ensures.answers, c.due_step-next.ensures.leaves)
+      omega arith,
+      rw g.answers (due_low l.cpu l.mem l.invariant.1),
+      omega (arith, most l.cpu l.mem _ _ g),
+      omega (arith, least l.cpu l.mem _ _ g e),
+      rw (g.answers, g.leaves)
           (sym
-          (turn_taken c.args.budget c.loop-spent.spent c.loop-spent.steps cpu mem c.loop-spent.invariant.0 c.loop-spent.invariant.1
-          c.loop-spent-test.true (sym (code_told s) ∙ e))
-          ∙ c.loop-spent.invariant.4),
+          (turn_taken c.args.budget l.spent l.steps l.cpu l.mem l.invariant.0 l.invariant.1 c.loop-spent-test.true
+          (sym (code_told l.cpu l.mem _ _ g) ∙ e))
+          ∙ l.invariant.4),
     )
-
-pub shape_of-mem : goal.shape_of-mem
-shape_of-mem c = c.loop-spent.invariant.0 ∙ sym c.requires.0
 
 pub returns : goal.returns
 returns c =
-    rw (
-      ← c.loop-spent.invariant.4,
-      run_over c.args.budget c.loop-spent.spent c.loop-spent.steps c.loop-spent.cpu c.loop-spent.mem c.args.budget c.loop-spent-test.false,
-    )
-    exactly
+    let l = c.loop-spent in
+    rw (← l.invariant.4, run_over c.args.budget l.spent l.steps l.cpu l.mem c.args.budget c.loop-spent-test.false) exactly

@@ -1,5 +1,4 @@
 -- `push_high` meets its contract.
-use borrow.Author.Rules.{rules}
 use Rattle.machine.proofs.stack.push_high.Goals as goal
 
 pub returns : goal.returns

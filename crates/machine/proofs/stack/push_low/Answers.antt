@@ -1,5 +1,4 @@
 -- `push_low` meets its contract.
-use borrow.Author.Rules.{rules}
 use Rattle.machine.proofs.stack.push_low.Goals as goal
 
 pub returns : goal.returns

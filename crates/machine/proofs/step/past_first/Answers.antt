@@ -1,5 +1,4 @@
 -- `past_first` meets its contract.
-use borrow.Author.Rules.{rules}
 use Rattle.machine.specs.Step.{past_first}
 use Rattle.machine.proofs.step.past_first.Goals as goal
 

@@ -1,0 +1,14 @@
+-- The measure is the depth that remains. The loop's invariant: how far the level is read, and the total with it.
+use Prim.Native.Nat.{◌-◌}
+use lib.ListN.{length}
+use Rattle.constants.proofs.Levels.{Level}
+use Rattle.constants.proofs.sums.+sum.Given as goal
+
+abbrev pub decreases-sum : goal.decreases-sum
+decreases-sum l = l.depth
+
+abbrev pub invariant-loop-sign : goal.invariant-loop-sign
+invariant-loop-sign l = Level l.text l.fn.from l.fn.negative l.fn.total l.at l.total
+
+abbrev pub decreases-loop-sign : goal.decreases-loop-sign
+decreases-loop-sign l = length l.text - l.at

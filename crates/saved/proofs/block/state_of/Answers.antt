@@ -1,0 +1,10 @@
+-- `state_of` reads each field at its place.
+use borrow.Author.Rules.{rules}
+use Rattle.digits.specs.Digits.{byte_in}
+use Rattle.saved.specs.Block.{flags_in, ime_code_in, mode_code_in, held_in}
+use Rattle.saved.proofs.block.state_of.Goals as goal
+
+pub returns : goal.returns
+unfolding held_in byte_in flags_in ime_code_in mode_code_in
+returns c =
+    rw (c.ime_at-ime.ensures, c.mode_at-mode.ensures, c.word-sp.ensures, c.word-pc.ensures)
