@@ -40,3 +40,30 @@ def in_file(path):
         elif word == "old:":
             found[-1].places.append((source, rest))
     return found
+
+
+def pairs(path):
+    """What an edit's file changes: (a file of the crate, the old text, the new text), as the kit reads it."""
+    found, file, old = [], "", None
+    for line in path.read_text().split("\n"):
+        if line.startswith("file: "):
+            file = line.removeprefix("file: ").strip()
+        elif line.startswith("old: "):
+            old = line.removeprefix("old: ")
+        elif line.startswith("new:") and old is not None:
+            found.append((file, old, line.removeprefix("new:").removeprefix(" ")))
+            old = None
+    return found
+
+
+def applied(crate, path):
+    """The texts of the files that an edit's file changes, with its changes made one after another, and what is wrong, if anything is."""
+    after, changes = {}, pairs(path)
+    for file, old, new in changes:
+        if file not in after:
+            after[file] = (crate / file).read_text() if (crate / file).is_file() else ""
+        count = after[file].count(old)
+        if count != 1:
+            return {}, f"changes a text that stands in {file} {count} times, and not once: {old}"
+        after[file] = after[file].replace(old, new)
+    return after, "" if changes else "changes nothing"
