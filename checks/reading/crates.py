@@ -4,6 +4,7 @@ import re
 import shutil
 
 ROOT = pathlib.Path(__file__).resolve().parents[2]
+LEFT = shutil.ignore_patterns("out", "must-fail")  # of a crate that is copied for the prover
 
 
 def listed(root=ROOT):
@@ -114,13 +115,13 @@ def copy_under(folder, top, root=ROOT, whole=None, theorems=None):
         entire, texts = set(), [*kept.values(), *(path.read_text() for path in (root / "crates" / top / "specs").glob("*.antt"))]
     else:
         entire = called(top, crates, root) if whole is None else set(whole)
-        shutil.copytree(root / "crates" / top, folder / "crates" / top)
+        shutil.copytree(root / "crates" / top, folder / "crates" / top, ignore=LEFT)
         texts = [path.read_text() for path in (root / "crates" / top).glob("**/*.antt")]
     under = [name for name in crates if name in below(top, crates)]
     for name in reversed(under):
         source, target = root / "crates" / name, folder / "crates" / name
         if name in entire:
-            shutil.copytree(source, target)
+            shutil.copytree(source, target, ignore=LEFT)
             texts += [path.read_text() for path in source.glob("**/*.antt")]
             continue
         kept = laws(name, cited(texts, f"Rattle\\.{name}\\.proofs"), root)
