@@ -1,7 +1,7 @@
 -- What is not refused: the number of a load or a save is 0 exactly where each property holds that a refusal names.
 -- Assumes nothing.
 use Prim.Native.Nat.{ℕ, ◌%◌}
-use mathlib.Core.Bool.{Bool, true, false, not, ◌&&◌, and-eq-true_iff}
+use mathlib.Core.Bool.{true, false, not, and-eq-true_iff}
 use mathlib.Core.List.{List}
 use mathlib.Core.Path.{◌≡◌, refl}
 use borrow.Author.Tests.{eqb-true, eq-eqb, not-false}

@@ -7,7 +7,7 @@ use mathlib.Core.List.{List, [], ◌∷◌, ◌++◌, append-nil}
 use mathlib.Core.Path.{◌≡◌, refl, sym, ap, ◌∙◌}
 use native.Mathlib.Omega.{arith}
 use lib.Dec.{lit<}
-use lib.ListN.{length, take, drop, take-append-drop, length-drop, length-take}
+use lib.ListN.{length, take, drop, take-append-drop, length-drop}
 use lib.Seq.{take_all}
 use Rattle.arith.specs.Refusals.{unless_refused}
 use Rattle.machine.specs.Memory.{memory_size}

@@ -15,7 +15,6 @@ use Rattle.machine.specs.declared.Ran.{Ran}
 use Rattle.saved.specs.Answers.{load_head_of}
 use Rattle.saved.specs.Codes.{ime_code, mode_code}
 use Rattle.saved.specs.Head.{head_size}
-use Rattle.saved.specs.declared.Loaded.{Loaded}
 use Rattle.text.specs.Written.{empty_text, written}
 use Rattle.text.specs.declared.Text.{Text}
 

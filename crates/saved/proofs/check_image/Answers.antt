@@ -1,5 +1,4 @@
 -- `check_image` loads from the front of 65,559 bytes.
-use borrow.Author.Rules.{rules}
 use Rattle.saved.specs.Answers.{open_of}
 use Rattle.saved.proofs.check_image.Goals as goal
 

@@ -1,5 +1,4 @@
 -- `load_head` loads from 23 bytes.
-use borrow.Author.Rules.{rules}
 use Rattle.saved.specs.Answers.{load_head_of}
 use Rattle.saved.proofs.load_head.Goals as goal
 

@@ -43,6 +43,6 @@ pub returns-else-opened-eq0 : goal.returns-else-opened-eq0
 unfolding open_of load_of loaded_by start_if
 returns-else-opened-eq0 c =
     let refused : Accepted (load_code image_size c.args.image.now) → ⊥ =
-      λ h. c.if-opened-eq0.false (code_told _ _ c.check_image-opened.ensures ∙ h)
+    λ h. c.if-opened-eq0.false (code_told _ _ c.check_image-opened.ensures ∙ h)
     in
     record { holds = sym (refused_memory _ refused _); lies = rw (refused_by_lem _ _ _ refused, zero-add) }

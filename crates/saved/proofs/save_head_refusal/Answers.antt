@@ -1,5 +1,4 @@
 -- `save_head_refusal` tests the length, then F.
-use borrow.Author.Rules.{rules}
 use borrow.Author.Tests.{eq-eqb, ne_eqb}
 use Rattle.arith.specs.Refusals.{number_or, code_of}
 use Rattle.saved.specs.Refusals.{save_head_refusals, save_head_code}

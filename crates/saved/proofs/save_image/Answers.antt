@@ -6,7 +6,7 @@ use lib.ListN.{length, length-take}
 use Rattle.std.specs.Prelude.{ℕ, ◌≤◌, List}
 use Rattle.arith.specs.Refusals.{unless_refused}
 use Rattle.machine.specs.declared.Cpu.{Cpu}
-use Rattle.saved.specs.Refusals.{Accepted, save_image_code}
+use Rattle.saved.specs.Refusals.{save_image_code}
 use Rattle.saved.specs.Answers.{save_image_of, saved_by, left_by}
 use Rattle.saved.proofs.Accepted.{ImageFits, accepted_image_fits}
 use Rattle.saved.proofs.Refused.{refused_left}

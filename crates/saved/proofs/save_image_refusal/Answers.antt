@@ -1,5 +1,4 @@
 -- `save_image_refusal` tests the length of the image, that of the memory, then F.
-use borrow.Author.Rules.{rules}
 use borrow.Author.Tests.{eq-eqb, ne_eqb}
 use Rattle.arith.specs.Refusals.{number_or, code_of}
 use Rattle.saved.specs.Refusals.{save_image_refusals, save_image_code}

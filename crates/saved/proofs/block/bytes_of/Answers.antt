@@ -1,5 +1,4 @@
 -- `bytes_of` writes each field at its place.
-use borrow.Author.Rules.{rules}
 use Rattle.saved.specs.Block.{block_of}
 use Rattle.saved.proofs.block.bytes_of.Goals as goal
 

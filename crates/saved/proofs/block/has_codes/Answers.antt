@@ -1,5 +1,4 @@
 -- `has_codes` looks at the two last bytes of the block.
-use borrow.Author.Rules.{rules}
 use mathlib.Core.Path.{refl}
 use Rattle.digits.specs.Digits.{byte_in}
 use Rattle.saved.specs.Block.{ime_code_in, mode_code_in, has_codes}

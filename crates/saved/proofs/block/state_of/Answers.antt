@@ -1,5 +1,4 @@
 -- `state_of` reads each field at its place.
-use borrow.Author.Rules.{rules}
 use Rattle.digits.specs.Digits.{byte_in}
 use Rattle.saved.specs.Block.{flags_in, ime_code_in, mode_code_in, held_in}
 use Rattle.saved.proofs.block.state_of.Goals as goal

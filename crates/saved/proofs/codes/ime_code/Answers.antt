@@ -1,5 +1,4 @@
 -- `ime_code` answers the code of each setting.
-use borrow.Author.Rules.{rules}
 use Rattle.saved.specs.Codes.{ime_code}
 use Rattle.saved.proofs.codes.ime_code.Goals as goal
 

@@ -1,5 +1,4 @@
 -- `mode_code` answers the code of each mode.
-use borrow.Author.Rules.{rules}
 use Rattle.saved.specs.Codes.{mode_code}
 use Rattle.saved.proofs.codes.mode_code.Goals as goal
 

@@ -1,5 +1,4 @@
 -- `block_in` takes the block's bytes one by one.
-use borrow.Author.Rules.{rules}
 use mathlib.Core.Path.{sym}
 use native.Mathlib.Omega.{arith}
 use Rattle.saved.specs.Block.{block_size}

@@ -1,5 +1,4 @@
 -- `bytes_of` puts the block between the version and the two lengths.
-use borrow.Author.Rules.{rules}
 use Rattle.digits.specs.Digits.{bytes_of, digits_of}
 use Rattle.saved.specs.Block.{block_of}
 use Rattle.saved.specs.Head.{head_of}

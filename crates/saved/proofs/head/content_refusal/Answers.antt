@@ -1,12 +1,10 @@
 -- `content_refusal` tests the version, both lengths, the codes and F, in their order. Each test says the same as the
 -- definition's own.
-use borrow.Author.Rules.{rules}
-use mathlib.Core.Path.{◌≡◌, ◌∙◌}
 use borrow.Author.Tests.{eq-eqb, ne_eqb}
 use Rattle.arith.specs.Refusals.{number_or, code_of}
 use Rattle.digits.specs.Digits.{byte_in}
-use Rattle.saved.specs.Block.{flags_in, has_codes}
-use Rattle.saved.specs.Head.{version_in, block_size_in, block_in, memory_size_in}
+use Rattle.saved.specs.Block.{flags_in}
+use Rattle.saved.specs.Head.{version_in, block_size_in, memory_size_in}
 use Rattle.saved.specs.Refusals.{content_refusals}
 use Rattle.saved.proofs.head.content_refusal.Goals as goal
 

@@ -1,5 +1,4 @@
 -- `load_refusal` tests the length, and then the content.
-use borrow.Author.Rules.{rules}
 use borrow.Author.Tests.{eq-eqb, ne_eqb}
 use Rattle.arith.specs.Refusals.{number_or, code_of}
 use Rattle.saved.specs.Refusals.{load_refusals, load_code}

@@ -1,5 +1,4 @@
 -- `number_at` is the number of the four bytes from a place on.
-use borrow.Author.Rules.{rules}
 use native.Mathlib.Numerals.{towards_suc}
 use Rattle.digits.specs.Digits.{number_in}
 use Rattle.digits.proofs.Places.{bytes_at, part_bytes}

@@ -1,5 +1,4 @@
 -- `state_in` reads the state from the block.
-use borrow.Author.Rules.{rules}
 use Rattle.saved.specs.Head.{state_in}
 use Rattle.saved.proofs.head.state_in.Goals as goal
 

@@ -1,6 +1,5 @@
 -- `digit` writes the digit where n reaches its power.
-use borrow.Author.Rules.{rules}
-use mathlib.Core.Path.{refl, ◌∙◌}
+use mathlib.Core.Path.{refl}
 use native.Mathlib.Omega.{arith}
 use Rattle.text.proofs.Text.digit.Goals as goal
 

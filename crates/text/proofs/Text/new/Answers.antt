@@ -1,6 +1,5 @@
 -- `new` meets its contract.
 use mathlib.Core.Path.{refl}
-use borrow.Author.Rules.{rules}
 use Rattle.text.specs.Written.{empty_text}
 use Rattle.text.proofs.Text.new.Goals as goal
 

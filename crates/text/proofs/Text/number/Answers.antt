@@ -1,5 +1,4 @@
 -- `number` meets its contract.
-use borrow.Author.Rules.{rules}
 use Rattle.text.specs.Answer.{number_then}
 use Rattle.text.specs.Written.{written}
 use Rattle.text.proofs.Texts.{written_append}

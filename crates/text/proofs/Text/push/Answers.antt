@@ -1,5 +1,4 @@
 -- `push` meets its contract: a byte is written while there is room.
-use borrow.Author.Rules.{rules}
 use borrow.Author.Tests.{lt-ltb, le-ltb}
 use Rattle.text.specs.Written.{pushed_if, pushed}
 use Rattle.text.proofs.Text.push.Goals as goal

@@ -1,5 +1,4 @@
 -- `registers` meets its contract.
-use borrow.Author.Rules.{rules}
 use Rattle.text.specs.Answer.{registers_line}
 use Rattle.text.proofs.Texts.{written_append}
 use Rattle.text.proofs.Text.registers.Goals as goal

@@ -1,5 +1,4 @@
 -- `word` meets its contract.
-use borrow.Author.Rules.{rules}
 use Rattle.text.specs.Answer.{word_then}
 use native.Mathlib.Nat.{div-one}
 use Rattle.digits.specs.Digits.{digits_of}

@@ -1,5 +1,4 @@
 -- `line` meets its contract.
-use borrow.Author.Rules.{rules}
 use Rattle.text.specs.Answer.{run_line, printed}
 use Rattle.text.specs.Written.{written}
 use Rattle.text.proofs.Texts.{written_append}

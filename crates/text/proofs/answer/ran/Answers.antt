@@ -1,5 +1,4 @@
 -- `ran` meets its contract.
-use borrow.Author.Rules.{rules}
 use Rattle.text.specs.Answer.{line_if, ran_text}
 use Rattle.text.proofs.answer.ran.Goals as goal
 

@@ -1,5 +1,4 @@
 -- `refusal` meets its contract.
-use borrow.Author.Rules.{rules}
 use Rattle.text.specs.Answer.{refusal_line, printed}
 use Rattle.text.specs.Written.{written}
 use Rattle.text.proofs.Texts.{written_append}
