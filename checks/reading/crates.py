@@ -116,13 +116,13 @@ def copy_under(folder, top, root=ROOT, whole=None, theorems=None):
     else:
         entire = called(top, crates, root) if whole is None else set(whole)
         shutil.copytree(root / "crates" / top, folder / "crates" / top, ignore=LEFT)
-        texts = [path.read_text() for path in (root / "crates" / top).glob("**/*.antt")]
+        texts = [path.read_text() for path in (folder / "crates" / top).glob("**/*.antt")]
     under = [name for name in crates if name in below(top, crates)]
     for name in reversed(under):
         source, target = root / "crates" / name, folder / "crates" / name
         if name in entire:
             shutil.copytree(source, target, ignore=LEFT)
-            texts += [path.read_text() for path in source.glob("**/*.antt")]
+            texts += [path.read_text() for path in target.glob("**/*.antt")]
             continue
         kept = laws(name, cited(texts, f"Rattle\\.{name}\\.proofs"), root)
         cut(source, target, kept)

@@ -76,6 +76,11 @@ def placed(text, crate, path, line):
     return f"{at_fault(text, crate)}/{path.removeprefix('./')}:{line}"
 
 
+def verdict(root, crate):
+    """The same from nothing."""
+    return run(["rt", "verdict"], root / "crates" / crate)
+
+
 def errors(text, crate):
     """The errors that the prover printed, as (place, words): those first that stand in a function's own proof, then those in
     laws, without those that only follow from another."""

@@ -5,7 +5,7 @@ from .edits import Edit
 from .numbers import NUMBER, another, off_by_one
 
 TURNED = {"ltb": "leb", "leb": "ltb", "<": "≤", "≤": "<"}
-OTHER = {"true": "false", "false": "true", "further": "back", "back": "further", "highOf": "lowOf", "lowOf": "highOf"}
+OTHER = {"true": "false", "false": "true", "further": "back", "back": "further", "high_of": "low_of", "low_of": "high_of"}
 ATOM = r"[^\s(){},;∷]+"
 
 
@@ -104,7 +104,7 @@ class Page:
                 for other, type_ in clause.types.items():
                     if other != word and type_ == clause.types[word]:
                         yield self.edit(item, "another operand", at, word, other)
-            elif word == "flagsOf":
+            elif word == "flags_of":
                 at = token.end()
                 for _ in range(4):
                     at = re.compile(r"\s*").match(text, at).end()

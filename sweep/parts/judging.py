@@ -67,4 +67,4 @@ def from_nothing(edit, root, top, whole=None):
         folder = pathlib.Path(name)
         crates.copy_under(folder, top, root, whole)
         with edit.made(folder / "crates"):
-            return prover.judge(*prover.check(folder, top), top)
+            return prover.judge(*prover.verdict(folder, top), top)
