@@ -16,7 +16,7 @@ UNFIT = (
     r"error\[",
     r"expected [^:]*, found|parse error|syntax",
     # a step of the program's own in the place of another: the code takes its steps in another order
-    r"expected type `goal\.",
+    r"expected type `goal\.[A-Z]",
     r"one has `[^`\s]*\.Lts\.[^`\s]*` \(expected\)",
     r"the other has `[^`\s]*\.Lts\.[^`\s]*` \(found\)",
 )
