@@ -186,10 +186,10 @@ def read_function(reading, file, path):
     parameters = parted(reading.block("(", ")").words())
     answer = ""
     if reading.take("->"):
-        answer = reading.take(r"[^{]*?(?=\s(?:requires|ensures|decreases|measure)\b|\s*\{)").group(0).strip()
+        answer = reading.take(r"[^{]*?(?=\s(?:ghost|requires|ensures|decreases|measure)\b|\s*\{)").group(0).strip()
     found = Function((*path, name), False, parameters, answer, file=file)
     while True:
-        clause = reading.take(r"(requires|ensures|decreases|measure)\b[^{]*")
+        clause = reading.take(r"(ghost|requires|ensures|decreases|measure)\b[^{]*")
         if not clause:
             break
         said = reading.block("{", "}").words()
