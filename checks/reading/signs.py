@@ -18,8 +18,8 @@ KIT = {
     "": "◌×◌ ⌜◌⌝ ◌∗◌ ◌-∗◌ ◌∧ₛ◌ ◌∨ₛ◌ ◌→ₛ◌ ⊤ₛ ⊥ₛ ∀ₛ ∃ₛ",
 }
 SIGNS = {sign: module for module, signs in KIT.items() for sign in signs.split()}
-# the modules of the kit that pass such names on from one place, and declare nothing
-PASSED_ON = ("Rattle.std.specs.Prelude", "Rattle.std.proofs.Common", "Rattle.core.specs.Prelude")
+# the modules of the kit that pass such names on, and declare none of them
+PASSED_ON = ("Rattle.std.specs.Prelude", "Rattle.std.specs.Borrow", "Rattle.std.proofs.Common")
 
 
 def is_kits(sign, there):
