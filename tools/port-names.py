@@ -92,7 +92,7 @@ def respelled(text, new, kinds):
             return match[0]  # a label that the prover makes
         return before + new[name]
 
-    token = re.compile(rf"((?:Rattle\.[\w.]+\.)|[{EDGE}\\]|^)([^{EDGE}\\]+)", re.M)
+    token = re.compile(rf"(Rattle\.[\w.]+\.|[{EDGE}\\](?!Rattle\.)|^(?!Rattle\.))([^{EDGE}\\]+)", re.M)
     return token.sub(one, text)
 
 
@@ -107,9 +107,10 @@ def main():
     for path in proofs + sorted(crates.glob("*/src/**/*.rt")):
         text = path.read_text()
         clauses = respelled(text, new, kinds)
-        if path.suffix == ".rt":  # strings keep their words
+        if path.suffix == ".rt":  # strings keep their words, and functions their names: no clause cites a lemma
             pieces = re.split(r'("(?:[^"\\\n]|\\.)*")', text)
-            clauses = "".join(p if i % 2 else respelled(p, new, kinds) for i, p in enumerate(pieces))
+            cited = {name: to for name, to in new.items() if not to.endswith(LEMMA)}
+            clauses = "".join(p if i % 2 else respelled(p, cited, kinds) for i, p in enumerate(pieces))
         if clauses != text:
             path.write_text(clauses)
     for name in sorted(new):

@@ -1,7 +1,7 @@
 -- What H and C tell of a sum and of a difference: the one law of sums, at 8 and 4 bits of bytes and at 16 and 12 of words, and the
 -- one law of differences, at 8 and 4.
 -- Assumes nothing.
-use Rattle.std.proofs.Common.{◌≡◌, ℕ, ◌+◌, ◌-◌, ◌*◌, ◌/◌, ◌%◌, ◌^◌, ◌<◌, ◌≤◌, Bool, true, false, sym, ap, ◌∙◌, arith}
+use Rattle.std.proofs.Common.{◌≡◌, ℕ, ◌+◌, ◌-◌, ◌*◌, ◌/◌, ◌%◌, ◌^◌, ◌<◌, ◌≤◌, Bool, sym, ap, ◌∙◌, arith}
 use native.Mathlib.Nat.{mod-mod}
 use Rattle.arith.specs.Width.{one_if, sum_of, difference_of, carry_of, borrow_of}
 use Rattle.arith.specs.Flags.{h_of, c_of}

@@ -1,7 +1,7 @@
 -- What holds of the definitions themselves, for every input: results are bytes and words, F's low four bits are 0, the flags are
 -- what F was made of, and a word is its two bytes.
 -- Assumes nothing.
-use Rattle.std.proofs.Common.{◌≡◌, ℕ, ◌+◌, ◌-◌, ◌*◌, ◌/◌, ◌%◌, ◌^◌, ◌<◌, ◌≤◌, Bool, true, false, eqb, ltb, refl, lt_of_le_of_lt, mod-lt, mod-eq_of_lt, one-mul, arith, pow_pos}
+use Rattle.std.proofs.Common.{◌≡◌, ℕ, ◌+◌, ◌-◌, ◌*◌, ◌/◌, ◌%◌, ◌^◌, ◌<◌, ◌≤◌, Bool, true, false, eqb, ltb, lt_of_le_of_lt, mod-lt, mod-eq_of_lt, one-mul, arith, pow_pos}
 use lib.Bits.{and_le_l, or_lt, xor_lt}
 use lib.Pow.{pow-lt}
 use Rattle.arith.specs.Width.{one_if, sum_of, difference_of}

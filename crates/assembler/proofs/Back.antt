@@ -114,8 +114,8 @@ unfolding signed_if ascii is_newline
 signed_clear true n = hex_clear 2 n
 signed_clear false n = hex_clear 2 (256 - n)
 
-constant_clear : (next : ℕ) (k : Kind) (n : ℕ) → clear (listing.constantText next k n) ≡ true
-unfolding listing.constantText signed_text decimal_text
+constant_clear : (next : ℕ) (k : Kind) (n : ℕ) → clear (listing.constant_text next k n) ≡ true
+unfolding listing.constant_text signed_text decimal_text
 constant_clear next n8 n = hex_clear 2 n
 constant_clear next n16 n = hex_clear 4 n
 constant_clear next at_n16 n = hex_clear 4 n
@@ -247,7 +247,7 @@ held_taken : (a row : ℕ) (x : Shown) → HeldRanged x
     → verdict_by a row (held_slot x) (standing (held_slot x) (held_text (further 2 a) x)) ≡ Bytes (bytes_of row (held_slot x) (held_number x))
 unfolding standing verdict_by valued_by highest number_in reached verdict_if
 held_taken a row (Named t) h = refl
-held_taken a row (Of k n) h = rw (stands_found k (listing.constantText (further 2 a) k n)) (constant_taken a row k n h)
+held_taken a row (Of k n) h = rw (stands_found k (listing.constant_text (further 2 a) k n)) (constant_taken a row k n h)
 
 -- an instruction
 module _ (e : Edition) (a op n w : ℕ) (h : op < 256) (hn : n < 256) (hw : w < 65536) (d : is_undefined (decode_of op n w) ≡ false) where
@@ -277,7 +277,7 @@ module _ (e : Edition) (a op n w : ℕ) (h : op < 256) (hn : n < 256) (hw : w < 
 
 -- a byte of data
 data_whole : (a next b : ℕ) → b < 256 → Back a (spelling_text next (data_of b)) (read_back a (spelling_text next (data_of b)))
-unfolding listing.constantText slot_of
+unfolding listing.constant_text slot_of
 data_whole a next b h =
     let r = recovered_data next b h in
     let line = spelling_text next (data_of b) in

@@ -28,7 +28,7 @@ use Rattle.spellings.specs.declared.Slot.TheVariants.{Bare, N8, N16, High, E8, T
 use Rattle.spellings.proofs.Outline.{both}
 use Rattle.spellings.proofs.Exact.{row_spells, spelled_has, one_reading}
 use Rattle.assembler.specs.Ranges.{highest, lowest, number_in, reached}
-use Rattle.assembler.specs.Lines.{Fault, Bytes, standing, found_in as found-in-line, verdict_if, valued_by, verdict_by, verdict_of}
+use Rattle.assembler.specs.Lines.{Fault, Bytes, standing, found_in as found_in_line, verdict_if, valued_by, verdict_by, verdict_of}
 use Rattle.assembler.specs.Exact.{Put, Nothing, This, put_text, is_bare, SuitsIf, OfForm, value_in, nests_in, small_in, inside, mod_word, number_at, line_refusals, form_verdict, Formless, Formed, NotFormless, OneForm}
 use Rattle.assembler.proofs.Back.{verdict_by_lem, none_append}
 
@@ -69,13 +69,13 @@ ranges Vec = (omega arith, omega arith)
 within_range : (slot : Slot) (v : ℤ) → within slot v ≡ true → in_range v ≡ true
 unfolding in_range
 within_range slot (pos n) h =
-    let n-low = leb-true n (highest slot) h in
+    let n_low = leb-true n (highest slot) h in
     let top = (ranges slot).0 in
-    le-leb n 65535 (omega (arith, n-low, top))
+    le-leb n 65535 (omega (arith, n_low, top))
 within_range slot (negsuc n) h =
-    let n-low = leb-true (suc n) (lowest slot) h in
+    let n_low = leb-true (suc n) (lowest slot) h in
     let bottom = (ranges slot).1 in
-    rw (le-leb n 32767 (omega (arith, n-low, bottom))) refl
+    rw (le-leb n 32767 (omega (arith, n_low, bottom))) refl
 
 signed_verdict : (a row : ℕ) (slot : Slot) (v : ℤ) → verdict_by a row slot (signed v) ≡ valued_by a row slot (within slot v) (mod_word v)
 unfolding verdict_by signed mod_word
@@ -311,7 +311,7 @@ formed a r p line f =
 -- where there is no form: no row, or no constant in its place
 module _ (a : ℕ) (line : List ℕ) (no_form : (r : Row) (p : Put) → OfForm r p line → ⊥) where
   without_row : row_by (outline_in line) ≡ no_row → verdict_of a line ≡ Fault 12
-  unfolding verdict_of found-in-line found_if verdict_by
+  unfolding verdict_of found_in_line found_if verdict_by
   without_row e = rw (eq-eqb (row_by (outline_in line)) no_row e) refl
 
   module _ (s : Spelled line) (some : row_by (outline_in line) ≢ no_row) where
@@ -332,17 +332,17 @@ module _ (a : ℕ) (line : List ℕ) (no_form : (r : Row) (p : Put) → OfForm r
         let told = (exact (constant_in line) c).0 e in
         absurd (no_form s.row (This c) (form_of (This c) (unfold put_text in sym told.spelled) (rw bare told.formed)))
 
-    by-slot : (t : Bool) → is_bare slot ≡ t → verdict_of a line ≡ Fault 12
-    by-slot true bare =
+    by_slot : (t : Bool) → is_bare slot ≡ t → verdict_of a line ≡ Fault 12
+    by_slot true bare =
         absurd (no_form s.row Nothing (form_of Nothing (unfold put_text in bare_takes slot (constant_in line) bare s.spells.takes) (rw bare tt)))
-    by-slot false bare = no_constant (read_of (constant_in line)) refl bare
+    by_slot false bare = no_constant (read_of (constant_in line)) refl bare
 
   by_row : (t : Bool) → eqb (row_by (outline_in line)) no_row ≡ t → verdict_of a line ≡ Fault 12
   by_row true e = without_row (eqb-true _ _ e)
   by_row false e =
       let some = eqb-false _ _ e in
       let s = row_spells line some in
-      by-slot s some (is_bare (slot s some)) refl
+      by_slot s some (is_bare (slot s some)) refl
 
 pub formless : Formless
 formless a line no_form = by_row a line no_form (eqb (row_by (outline_in line)) no_row) refl

@@ -33,7 +33,7 @@ pub data Begins (text : List ℕ) : Type 0 where
 
 -- a character before a text: a newline, or more of the first line
 more_if : (t : Bool) (c : ℕ) (cs : List ℕ) → eqb c newline ≡ t → Begins cs → Begins (c ∷ cs)
-unfolding up_to on_from text_of text_if before texts.textIf is_newline
+unfolding up_to on_from text_of text_if before texts.text_if is_newline
 more_if true c cs e b = with_line (rw e (omega arith)) (rw e refl) (rw e refl)
 more_if false c cs e (no_newline l r n) = no_newline (rw (e, l) refl) (rw (e, l, r) refl) (rw (e, n) refl)
 more_if false c cs e (with_line s l r) = with_line (rw e (omega (arith, s))) (rw (e, l) refl) (rw (e, l, r) refl)

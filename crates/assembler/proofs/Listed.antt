@@ -1,7 +1,7 @@
 -- The constants of a listing are read as the numbers that they stand for, in the range of their operand; so a line of a listing has its
 -- bytes.
 -- Assumes nothing.
-use Prim.Native.Nat.{ℕ, suc, ◌+◌, ◌-◌, ◌%◌, ◌^◌, ◌<◌, ◌≤◌}
+use Prim.Native.Nat.{ℕ, suc, ◌-◌, ◌%◌, ◌^◌, ◌<◌, ◌≤◌}
 use mathlib.Core.Bool.{Bool, true, false}
 use mathlib.Core.List.{List, [], ◌∷◌, ◌++◌, map}
 use mathlib.Core.Path.{◌≡◌, refl, ◌∙◌, ap}
@@ -78,13 +78,13 @@ Ranged vec n = (n ≤ 56) × (eqb (n % 8) 0 ≡ true)
 
 -- a constant of one number, as it is or after a minus
 plain_found : (k n v : ℕ) → n % 16 ^ suc k ≡ v → v < 65536 → found_of (hex (suc k) n) ≡ Above v
-unfolding found_of found_in found_if constants.constantText number_text hex right nests small value_of in_range signed
+unfolding found_of found_in found_if constants.constant_text number_text hex right nests small value_of in_range signed
 plain_found k n v e h =
     let read = whole_read (Plain (Number Hexadecimal (hex_text (suc k) n))) (hex_number k n) in
     rw (read, hex_worth (suc k) n, e, le-leb v 65535 (omega (arith, h))) refl
 
 negated_found : (k n v : ℕ) → n % 16 ^ suc k ≡ suc v → v < 32768 → found_of (ascii "-" ++ hex (suc k) n) ≡ Below (suc v)
-unfolding found_of found_in found_if constants.constantText number_text hex right nests small value_of in_range signed
+unfolding found_of found_in found_if constants.constant_text number_text hex right nests small value_of in_range signed
 negated_found k n v e h =
     let read = whole_read (Negated (Number Hexadecimal (hex_text (suc k) n))) (hex_number k n) in
     rw (read, hex_worth (suc k) n, e, le-leb (suc v) 65535 (omega (arith, h)), le-leb v 32767 (omega (arith, h))) refl
@@ -200,8 +200,8 @@ word_taken a row n h =
 
 -- a constant of a listing, by its kind
 pub constant_taken : (a row : ℕ) (k : Kind) (n : ℕ) → Ranged k n
-    → verdict_by a row (slot_of k) (found_of (listing.constantText (further 2 a) k n)) ≡ Bytes (bytes_of row (slot_of k) n)
-unfolding listing.constantText slot_of signed_text
+    → verdict_by a row (slot_of k) (found_of (listing.constant_text (further 2 a) k n)) ≡ Bytes (bytes_of row (slot_of k) n)
+unfolding listing.constant_text slot_of signed_text
 constant_taken a row n8 n h = byte_taken a row n h
 constant_taken a row n16 n h = word_taken a row n h
 constant_taken a row at_n16 n h = word_taken a row n h

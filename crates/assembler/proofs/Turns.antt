@@ -65,14 +65,14 @@ module _ (text : List ℕ) (from end a : ℕ) (here : from < length text) (is : 
     unfolding coded
     count_is = ap (λ (c : Code). c.count) t.held
 
-    pub count-few : code.count ≤ 3
-    count-few = rw count_is (verdict_short a (text_of (drop from text)).lines t.bytes t.has)
+    pub count_few : code.count ≤ 3
+    count_few = rw count_is (verdict_short a (text_of (drop from text)).lines t.bytes t.has)
 
     fault_bytes : {n : ℕ} {bytes : List ℕ} → Fault n ≡ Bytes bytes → ⊥
     fault_bytes e = let z : ◌≡◌ {A = ℕ} 0 1 = cc in omega arith
 
-    pub ends-inside : end < length text
-    ends-inside = go (ltb end (length text)) refl
+    pub ends_inside : end < length text
+    ends_inside = go (ltb end (length text)) refl
       where
         go : (u : Bool) → ltb end (length text) ≡ u → end < length text
         go true h = ltb-true end (length text) h

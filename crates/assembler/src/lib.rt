@@ -1,5 +1,6 @@
 // The assembler: lines of spelling in either edition as bytes. Nothing here knows the processor's state.
 #![tactic(auto)]
+
 mod lines;
 mod ranges;
 mod texts;

@@ -6,7 +6,6 @@ use Rattle.arith.specs.declared.Alu.{Alu}
 use Rattle.arith.specs.declared.Alu.TheVariants.{Add, Adc, Sub, Sbc, And, Xor, Or, Cp}
 use Rattle.arith.specs.declared.Rot.{Rot}
 use Rattle.arith.specs.declared.Rot.TheVariants.{Rlc, Rrc, Rl, Rr, Sla, Sra, Swap, Srl}
-use Rattle.insn.specs.declared.Register.{Register}
 use Rattle.insn.specs.declared.Register.TheVariants as reg
 use Rattle.insn.specs.declared.Operand.{Operand}
 use Rattle.insn.specs.declared.Operand.TheVariants.{Reg, AtHl, Const}
@@ -18,7 +17,6 @@ use Rattle.insn.specs.declared.Stacked.{Stacked}
 use Rattle.insn.specs.declared.Stacked.TheVariants as stacked
 use Rattle.insn.specs.declared.Pointer.{Pointer}
 use Rattle.insn.specs.declared.Pointer.TheVariants as pointer
-use Rattle.insn.specs.declared.Cond.{Cond}
 use Rattle.insn.specs.declared.Cond.TheVariants as cond
 use Rattle.insn.specs.declared.Insn.{Insn}
 use Rattle.insn.specs.declared.Insn.TheVariants.{Nop, StoreSp, Stop, Jr, JrIf, LoadPair, AddHl, StoreAt, LoadAt, IncPair, DecPair, Inc, Dec, Load, RotateA, Daa, Cpl, Scf, Ccf, Halt, Math, RetIf, StoreHigh, AddSp, LoadHigh, LoadHlSp, Pop, Ret, Reti, JumpHl, LoadSpHl, JumpIf, StoreHighC, StoreTo, LoadHighC, LoadFrom, Jump, Rotate, Bit, Res, Set, Di, Ei, CallIf, Push, Call, Rst, Undefined}

@@ -1,5 +1,5 @@
 -- `add` is the sum at eight bits; its carry is the whole sum's, by the law over the width.
-use Rattle.std.proofs.Common.{arith, rules}
+use Rattle.std.proofs.Common.{arith}
 use Rattle.arith.specs.Width.{one_if, sum_of}
 use Rattle.arith.specs.Bytes.{added_of}
 use Rattle.arith.proofs.Width.{carry_whole}

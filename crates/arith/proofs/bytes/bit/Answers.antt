@@ -1,5 +1,5 @@
 -- `bit` shifts the bit to the end.
-use Rattle.std.proofs.Common.{refl, rules}
+use Rattle.std.proofs.Common.{refl}
 use Rattle.arith.specs.Bytes.{bit_of}
 use Rattle.arith.proofs.bytes.bit.Goals as goal
 

@@ -1,5 +1,4 @@
 -- `compare` keeps A and takes the flags of the difference.
-use Rattle.std.proofs.Common.{rules}
 use Rattle.arith.specs.Bytes.{compared_of}
 use Rattle.arith.proofs.bytes.compare.Goals as goal
 

@@ -1,5 +1,5 @@
 -- `decrease` is a difference with 1 that keeps C.
-use Rattle.std.proofs.Common.{◌≡◌, ◌+◌, ◌-◌, arith, rules}
+use Rattle.std.proofs.Common.{◌≡◌, ◌+◌, ◌-◌, arith}
 use Rattle.arith.specs.Width.{difference_of}
 use Rattle.arith.specs.Bytes.{decreased_of}
 use Rattle.arith.proofs.bytes.decrease.Goals as goal

@@ -1,5 +1,5 @@
 -- `half_borrow` is the borrow at four bits: bit 4 of the operands and of their difference at eight, by the law over the width.
-use Rattle.std.proofs.Common.{ap, ◌∙◌, arith, rules}
+use Rattle.std.proofs.Common.{ap, ◌∙◌, arith}
 use Rattle.arith.specs.Width.{difference_of, borrow_of}
 use Rattle.arith.specs.Bytes.{bit_of}
 use Rattle.arith.proofs.Width.{borrow_bit}

@@ -1,5 +1,5 @@
 -- `half_carry` is the carry at four bits: bit 4 of the operands and of their sum at eight, by the law over the width.
-use Rattle.std.proofs.Common.{ap, ◌∙◌, arith, rules}
+use Rattle.std.proofs.Common.{ap, ◌∙◌, arith}
 use Rattle.arith.specs.Width.{sum_of, carry_of}
 use Rattle.arith.specs.Bytes.{bit_of}
 use Rattle.arith.proofs.Width.{carry_bit}

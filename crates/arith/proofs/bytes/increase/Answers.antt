@@ -1,5 +1,5 @@
 -- `increase` is a sum with 1 that keeps C.
-use Rattle.std.proofs.Common.{add-zero, rules}
+use Rattle.std.proofs.Common.{add-zero}
 use Rattle.arith.specs.Width.{sum_of}
 use Rattle.arith.specs.Bytes.{increased_of}
 use Rattle.arith.proofs.bytes.increase.Goals as goal

@@ -1,5 +1,4 @@
 -- `logic` gives the result and its flags.
-use Rattle.std.proofs.Common.{rules}
 use Rattle.arith.specs.Bytes.{logic_of}
 use Rattle.arith.proofs.bytes.logic.Goals as goal
 

@@ -1,5 +1,4 @@
 -- `operate` answers each operation by its function.
-use Rattle.std.proofs.Common.{rules}
 use Rattle.arith.specs.Bytes.{alu_of}
 use Rattle.arith.proofs.bytes.operate.Goals as goal
 

@@ -1,5 +1,4 @@
 -- `reset` masks the bit out.
-use Rattle.std.proofs.Common.{rules}
 use Rattle.arith.specs.Bytes.{reset_of}
 use Rattle.arith.proofs.Laws.{one_hot}
 use Rattle.arith.proofs.bytes.reset.Goals as goal

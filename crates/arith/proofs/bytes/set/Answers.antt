@@ -1,5 +1,4 @@
 -- `set` puts the bit in.
-use Rattle.std.proofs.Common.{rules}
 use Rattle.arith.specs.Bytes.{set_of}
 use Rattle.arith.proofs.Laws.{one_hot}
 use Rattle.arith.proofs.bytes.set.Goals as goal

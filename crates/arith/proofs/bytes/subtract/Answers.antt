@@ -1,5 +1,5 @@
 -- `subtract` is the difference at eight bits; its borrow is that of whole numbers, by the law over the width.
-use Rattle.std.proofs.Common.{arith, rules}
+use Rattle.std.proofs.Common.{arith}
 use Rattle.arith.specs.Width.{one_if, difference_of}
 use Rattle.arith.specs.Bytes.{subtracted_of}
 use Rattle.arith.proofs.Width.{borrow_whole}

@@ -1,5 +1,4 @@
 -- `test` sets Z by the bit and keeps C.
-use Rattle.std.proofs.Common.{rules}
 use Rattle.arith.specs.Bytes.{tested_of}
 use Rattle.arith.proofs.bytes.test.Goals as goal
 

@@ -1,5 +1,4 @@
 -- `adjust` goes by N.
-use Rattle.std.proofs.Common.{rules}
 use Rattle.arith.specs.Decimal.{decimal_of, by_last}
 use Rattle.arith.proofs.decimal.adjust.Goals as goal
 

@@ -1,5 +1,4 @@
 -- `adjusted` gives the result and its flags.
-use Rattle.std.proofs.Common.{rules}
 use Rattle.arith.specs.Decimal.{adjusted_of}
 use Rattle.arith.proofs.decimal.adjusted.Goals as goal
 

@@ -1,5 +1,5 @@
 -- `adjustment` adds the two weights.
-use Rattle.std.proofs.Common.{arith, rules}
+use Rattle.std.proofs.Common.{arith}
 use Rattle.arith.specs.Decimal.{adjustment_of}
 use Rattle.arith.proofs.decimal.adjustment.Goals as goal
 

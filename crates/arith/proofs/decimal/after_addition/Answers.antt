@@ -1,5 +1,5 @@
 -- `after_addition` adds the adjustment.
-use Rattle.std.proofs.Common.{add-zero, rules}
+use Rattle.std.proofs.Common.{add-zero}
 use Rattle.arith.specs.Width.{sum_of}
 use Rattle.arith.specs.Decimal.{low_wrong_of, high_wrong_of, after_addition_of}
 use Rattle.arith.proofs.decimal.after_addition.Goals as goal

@@ -1,5 +1,5 @@
 -- `after_subtraction` takes the adjustment away.
-use Rattle.std.proofs.Common.{add-zero, rules}
+use Rattle.std.proofs.Common.{add-zero}
 use Rattle.arith.specs.Width.{difference_of}
 use Rattle.arith.specs.Decimal.{after_subtraction_of}
 use Rattle.arith.proofs.decimal.after_subtraction.Goals as goal

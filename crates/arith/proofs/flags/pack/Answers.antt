@@ -1,5 +1,4 @@
 -- `pack` adds the four weights.
-use Rattle.std.proofs.Common.{rules}
 use Rattle.arith.specs.Flags.{flags_of}
 use Rattle.arith.proofs.flags.pack.Goals as goal
 

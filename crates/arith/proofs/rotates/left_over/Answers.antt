@@ -1,5 +1,4 @@
 -- `left_over` is the bit that each rotate moves out.
-use Rattle.std.proofs.Common.{rules}
 use Rattle.arith.specs.Rotates.{left_over_of}
 use Rattle.arith.proofs.rotates.left_over.Goals as goal
 

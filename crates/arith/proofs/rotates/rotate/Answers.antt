@@ -1,5 +1,4 @@
 -- `rotate` gives the byte and its flags.
-use Rattle.std.proofs.Common.{rules}
 use Rattle.arith.specs.Rotates.{rotation_of}
 use Rattle.arith.proofs.rotates.rotate.Goals as goal
 

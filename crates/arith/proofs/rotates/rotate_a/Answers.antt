@@ -1,5 +1,4 @@
 -- `rotate_a` gives the byte and its flags.
-use Rattle.std.proofs.Common.{rules}
 use Rattle.arith.specs.Rotates.{rotation_a_of}
 use Rattle.arith.proofs.rotates.rotate_a.Goals as goal
 

@@ -1,5 +1,5 @@
 -- `rotated` moves the bits as each rotate does.
-use Rattle.std.proofs.Common.{arith, rules}
+use Rattle.std.proofs.Common.{arith}
 use Rattle.arith.specs.Rotates.{rotated_of}
 use Rattle.arith.proofs.rotates.rotated.Goals as goal
 

@@ -1,5 +1,5 @@
 -- `add_hl` is the sum at sixteen bits; its carry is the whole sum's, by the law over the width.
-use Rattle.std.proofs.Common.{add-zero, arith, rules}
+use Rattle.std.proofs.Common.{add-zero, arith}
 use Rattle.arith.specs.Width.{sum_of, carry_of}
 use Rattle.arith.specs.Words.{added_hl_of}
 use Rattle.arith.proofs.Width.{carry_whole}

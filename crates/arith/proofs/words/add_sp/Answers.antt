@@ -1,5 +1,5 @@
 -- `add_sp` takes its flags from the low bytes.
-use Rattle.std.proofs.Common.{add-zero, mod-eq_of_lt, arith, rules}
+use Rattle.std.proofs.Common.{add-zero, mod-eq_of_lt, arith}
 use Rattle.arith.specs.Width.{carry_of}
 use Rattle.arith.specs.Words.{added_sp_of}
 use Rattle.arith.proofs.words.add_sp.Goals as goal

@@ -1,5 +1,5 @@
 -- `on` is a sum at sixteen bits.
-use Rattle.std.proofs.Common.{add-zero, rules}
+use Rattle.std.proofs.Common.{add-zero}
 use Rattle.arith.specs.Width.{sum_of}
 use Rattle.arith.specs.Words.{further}
 use Rattle.arith.proofs.words.further.Goals as goal

@@ -1,5 +1,5 @@
 -- `high` is the high byte.
-use Rattle.std.proofs.Common.{refl, rules}
+use Rattle.std.proofs.Common.{refl}
 use Rattle.arith.specs.Words.{high_of}
 use Rattle.arith.proofs.words.high.Goals as goal
 

@@ -1,5 +1,5 @@
 -- `low` is the low byte.
-use Rattle.std.proofs.Common.{refl, rules}
+use Rattle.std.proofs.Common.{refl}
 use Rattle.arith.specs.Words.{low_of}
 use Rattle.arith.proofs.words.low.Goals as goal
 

@@ -1,5 +1,5 @@
 -- `offset` goes on below $80, and back from there up.
-use Rattle.std.proofs.Common.{add-zero, arith, rules, le-ltb, lt-ltb}
+use Rattle.std.proofs.Common.{add-zero, arith, le-ltb, lt-ltb}
 use Rattle.arith.specs.Width.{sum_of, difference_of}
 use Rattle.arith.specs.Words.{offset_of, offset_by}
 use Rattle.arith.proofs.words.offset.Goals as goal

@@ -1,5 +1,4 @@
 -- `glyph` reads the table of glyphs.
-use borrow.Author.Rules.{rules}
 use mathlib.Core.Path.{refl}
 use Rattle.digits.specs.Ascii.{ascii}
 use Rattle.digits.specs.Numerals.{glyph_of}

@@ -1,5 +1,4 @@
 -- `number` puts four bytes together, the high byte first.
-use borrow.Author.Rules.{rules}
 use native.Mathlib.Omega.{arith}
 use Rattle.digits.specs.Digits.{number_of, worth_of}
 use Rattle.digits.proofs.numbers.number.Goals as goal

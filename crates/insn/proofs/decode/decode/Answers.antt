@@ -1,5 +1,4 @@
 -- `insn::decode::decode` meets its contract: the row of each byte answers for it. Assumes nothing.
-use borrow.Author.Rules.{rules}
 use native.Mathlib.Omega.{arith}
 use Rattle.insn.proofs.Last.{last}
 use Rattle.insn.proofs.decode.decode.Goals as goal

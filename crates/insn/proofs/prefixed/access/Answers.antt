@@ -1,6 +1,5 @@
 -- `insn::prefixed::access` meets its contract, by the place. Assumes nothing.
 use native.Mathlib.Omega.{arith}
-use borrow.Author.Rules.{rules}
 use Rattle.insn.specs.Grid.{operand_of}
 use Rattle.insn.specs.Shapes.{access_of}
 use Rattle.insn.proofs.prefixed.access.Goals as goal

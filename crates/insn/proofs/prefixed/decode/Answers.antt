@@ -1,6 +1,5 @@
 -- `insn::prefixed::decode` meets its contract: an operation of the grid on a place, with one access or two where that is in memory.
 -- Assumes nothing.
-use borrow.Author.Rules.{rules}
 use native.Mathlib.Omega.{arith}
 use Rattle.insn.specs.Grid.{nth, prefixed_at, prefixed_of}
 use Rattle.insn.specs.Shapes.{shape_of, shaped_of}

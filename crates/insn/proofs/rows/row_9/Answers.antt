@@ -1,5 +1,4 @@
 -- `insn::rows::row_9` meets its contract: each arm is the grid's entry, which antt computes. Assumes nothing.
-use borrow.Author.Rules.{rules}
 use Rattle.insn.proofs.Told.{entries, told, last_of}
 use Rattle.insn.proofs.rows.row_9.Goals as goal
 

@@ -2,7 +2,6 @@
 -- Assumes nothing.
 use mathlib.Core.Path.{sym}
 use native.Mathlib.Omega.{arith}
-use borrow.Author.Rules.{rules}
 use Rattle.insn.specs.Table.{rows, length_of}
 use Rattle.insn.proofs.Entries.{tabulated}
 use Rattle.insn.proofs.Told.{entries}

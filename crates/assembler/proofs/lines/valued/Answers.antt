@@ -1,6 +1,5 @@
 -- `valued` takes what is inside and reached.
 use Prim.Native.Nat.{ℕ}
-use borrow.Author.Rules.{rules}
 use mathlib.Core.Bool.{Bool, true, false, ◌&&◌}
 use mathlib.Core.Path.{◌≡◌, refl}
 use Rattle.arith.specs.Words.{further}
@@ -11,8 +10,7 @@ use Rattle.assembler.specs.Ranges.{number_in, reached}
 use Rattle.assembler.specs.Lines.{verdict_if, valued_by}
 use Rattle.assembler.specs.Judging.{judged_of}
 use Rattle.assembler.specs.declared.Judged.TheVariants.{Faulty, Takes}
-use Rattle.assembler.proofs.lines.valued.Statement.{statement}
-use Rattle.assembler.proofs.lines.valued.Tie as tie
+use Rattle.assembler.proofs.lines.valued.Goals as goal
 
 module _ (a row w next n : ℕ) (slot : Slot) (inside t : Bool)
     (behind : next ≡ further 2 a) (number : n ≡ number_in next slot w) (test : t ≡ reached slot n)
@@ -25,18 +23,10 @@ module _ (a row w next n : ℕ) (slot : Slot) (inside t : Bool)
     unfolding valued_by verdict_if judged_of
     out_of_range h = rw (rw (test, number, behind) at h) refl
 
-returns : tie.Need-returns
+pub returns-then-inside-reached : goal.returns-then-inside-reached
+returns-then-inside-reached c =
+    takes _ _ _ _ _ _ _ _ c.further.ensures c.number-n.ensures c.reached.ensures _ c.if-inside-reached.true c.bytes.ensures
+
+pub returns : goal.returns
 returns c =
-    let test = c.before.before in
-    let number = test.before in
-    takes _ _ _ _ _ _ _ _ number.before.further.ensures number.number.ensures test.reached.ensures _ c.before.if1.true
-    c.bytes.ensures
-
-returns_2 : tie.Need-returns-2
-returns_2 c =
-    let test = c.before in
-    let number = test.before in
-    out_of_range _ _ _ _ _ _ _ _ number.before.further.ensures number.number.ensures test.reached.ensures c.if1.false
-
-pub valued_spec : {M : Type 1} → statement M
-valued_spec = tie.close (tie.spec (search rules) (search rules) (search rules) (search rules) returns returns_2)
+    out_of_range _ _ _ _ _ _ _ _ c.further.ensures c.number-n.ensures c.reached.ensures c.if-inside-reached.false

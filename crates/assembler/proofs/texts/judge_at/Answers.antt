@@ -1,6 +1,5 @@
 -- `judge_at` judges the line where it has its newline.
 use Prim.Native.Nat.{ℕ, ◌+◌, ◌-◌, ◌<◌, ◌≤◌}
-use borrow.Author.Rules.{rules}
 use mathlib.Core.List.{List}
 use mathlib.Core.Path.{◌≡◌, refl}
 use native.Mathlib.Omega.{arith}
@@ -11,8 +10,7 @@ use Rattle.assembler.specs.Judging.{judged_of, head_verdict}
 use Rattle.assembler.specs.declared.Judged.{Judged}
 use Rattle.assembler.specs.declared.Judged.TheVariants.{Faulty}
 use Rattle.assembler.proofs.First.{line_in, line_taken, head_whole, head_cut}
-use Rattle.assembler.proofs.texts.judge_at.Statement.{statement}
-use Rattle.assembler.proofs.texts.judge_at.Tie as tie
+use Rattle.assembler.proofs.texts.judge_at.Goals as goal
 
 module _ (text : List ℕ) (from end a : ℕ) (here : from < length text) (is : end ≡ from + length (line_in (drop from text))) where
   left : length (drop from text) ≡ length text - from
@@ -29,13 +27,9 @@ module _ (text : List ℕ) (from end a : ℕ) (here : from < length text) (is : 
   unfolding judged_of
   without h = rw (head_cut a (drop from text) (omega (arith, is, left))) refl
 
-returns : tie.Need-returns
-returns c =
-    let start = c.before.before.before.before in
-    with_newline _ _ _ _ start.requires.0 start.requires.1 _ c.before.before.if1.true c.judge.ensures
+pub returns-then-end-text : goal.returns-then-end-text
+returns-then-end-text c =
+    with_newline _ _ _ _ c.requires.from_in_bounds c.requires.end_value _ c.if-end-text.true c.judge.ensures
 
-returns_2 : tie.Need-returns-2
-returns_2 c = let start = c.before.before in without _ _ _ _ start.requires.0 start.requires.1 c.if1.false
-
-pub judge_at_spec : {M : Type 1} → statement M
-judge_at_spec = tie.close (tie.spec (search rules) (search rules) (search rules) (search rules) returns returns_2)
+pub returns : goal.returns
+returns c = without _ _ _ _ c.requires.from_in_bounds c.requires.end_value c.if-end-text.false

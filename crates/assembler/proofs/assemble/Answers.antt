@@ -1,6 +1,5 @@
 -- `assemble` measures the text, and writes its bytes where nothing is at fault.
 use Prim.Native.Nat.{ℕ}
-use borrow.Author.Rules.{rules}
 use mathlib.Core.List.{List}
 use mathlib.Core.Path.{◌≡◌, refl, sym, ◌∙◌, ap}
 use native.Mathlib.Omega.{arith}
@@ -10,8 +9,7 @@ use Rattle.assembler.specs.Text.{Outcome, Refused, Done, outcome_of, answer_of, 
 use Rattle.assembler.specs.Judging.{measured_of, WritesAll}
 use Rattle.assembler.specs.declared.Measured.TheVariants.{AtFault, Fits}
 use Rattle.assembler.proofs.Outcomes.{done_fits}
-use Rattle.assembler.proofs.assemble.Statement.{statement}
-use Rattle.assembler.proofs.assemble.Tie as tie
+use Rattle.assembler.proofs.assemble.Goals as goal
 
 apart : {n line size : ℕ} → AtFault n line ≡ Fits size → ⊥
 apart e = let z : ◌≡◌ {A = ℕ} 0 1 = cc in omega arith
@@ -46,14 +44,9 @@ module _ (first : ℕ) (text out : List ℕ) where
       let front = written_front f.bytes out (done_fits first text (length out) f.bytes f.comes) (w f.bytes f.comes) in
       rw f.comes (record { answers = ap (λ k. record { code = 0; line = 0; length = k }) f.long; leaves = front.1 })
 
-returns : tie.Need-returns
-returns c = refused _ _ _ _ _ (sym c.before.decreases.given.1 ∙ c.before.before.before.measure.ensures)
+pub returns-in-AtFault : goal.returns-in-AtFault
+returns-in-AtFault c = refused _ _ _ _ _ (sym c.in-AtFault.is ∙ c.measure-measured.ensures)
 
-returns_2 : tie.Need-returns-2
-returns_2 c =
-    let write = c.before.before in
-    let told = write.before.before.before in
-    done _ _ _ _ _ _ (sym told.measured2.given.1 ∙ told.before.before.measure.ensures) write.write.ensures
-
-pub assemble_spec : {M : Type 1} → statement M
-assemble_spec = tie.close (tie.spec (search rules) (search rules) (search rules) (search rules) returns (search rules) returns_2)
+pub returns-in-Fits : goal.returns-in-Fits
+returns-in-Fits c =
+    done _ _ _ _ _ _ (sym c.in-Fits.is ∙ c.measure-measured.ensures) c.write.ensures

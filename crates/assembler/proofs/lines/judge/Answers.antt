@@ -1,6 +1,5 @@
 -- `judge` finds the row, reads what stands in the place of its constant, and tries its range.
 use Prim.Native.Nat.{ℕ, ◌+◌, ◌-◌}
-use borrow.Author.Rules.{rules}
 use borrow.Author.Tests.{eq-eqb, ne_eqb}
 use mathlib.Core.List.{List}
 use mathlib.Core.Path.{◌≡◌, refl, sym, ◌∙◌, ap}
@@ -19,8 +18,7 @@ use Rattle.assembler.specs.Judging.{judged_of}
 use Rattle.assembler.specs.declared.Judged.{Judged}
 use Rattle.assembler.specs.declared.Judged.TheVariants.{Faulty}
 use Rattle.assembler.proofs.Parts.{part_is, part_within}
-use Rattle.assembler.proofs.lines.judge.Statement.{statement}
-use Rattle.assembler.proofs.lines.judge.Tie as tie
+use Rattle.assembler.proofs.lines.judge.Goals as goal
 
 -- what is found of a line
 module _ (a : ℕ) (line : List ℕ) (form : Form) (is : form ≡ form_of line) where
@@ -73,59 +71,39 @@ module _ (a : ℕ) (line : List ℕ) (form : Form) (is : form ≡ form_of line) 
       → judged ≡ judged_of (verdict_by a form.row form.slot value) → judged ≡ judged_of (verdict_of a line)
   faulty some found value judged stood told is = rw (by_value some found value stood told) is
 
-returns : tie.Need-returns
-returns c = no_row _ _ _ c.before.find.ensures c.if1.true
+pub returns-then-row-eq-NO_ROW : goal.returns-then-row-eq-NO_ROW
+returns-then-row-eq-NO_ROW c = no_row _ _ _ c.find-form.ensures c.if-row-eq-NO_ROW.true
 
-sub_standing : tie.Need-overflow-sub-standing
-sub_standing c = let find = c.before.find.ensures in (part_within _ _ _ (from_is 0 _ _ find) (to_is 0 _ _ find)).0
+pub slice_bounds-standing-count : goal.slice_bounds-standing-count
+slice_bounds-standing-count c = let find = c.find-form.ensures in (part_within _ _ _ (from_is 0 _ _ find) (to_is 0 _ _ find)).0
 
-part_standing_start : tie.Need-slice-bounds-standing-start
-part_standing_start c = let find = c.before.find.ensures in (part_within _ _ _ (from_is 0 _ _ find) (to_is 0 _ _ find)).0
+pub slice_bounds-standing-start : goal.slice_bounds-standing-start
+slice_bounds-standing-start c = let find = c.find-form.ensures in (part_within _ _ _ (from_is 0 _ _ find) (to_is 0 _ _ find)).0
 
-part_standing_end : tie.Need-slice-bounds-standing-end
-part_standing_end c = let find = c.before.find.ensures in (part_within _ _ _ (from_is 0 _ _ find) (to_is 0 _ _ find)).1
+pub slice_bounds-standing-end : goal.slice_bounds-standing-end
+slice_bounds-standing-end c = let find = c.find-form.ensures in (part_within _ _ _ (from_is 0 _ _ find) (to_is 0 _ _ find)).1
 
-returns_2 : tie.Need-returns-2
+pub returns-in-NoForm : goal.returns-in-NoForm
 unfolding verdict_by judged_of
-returns_2 c =
-    let stood = c.before.before in
-    let row = stood.before.before in
-    faulty _ _ _ row.before.find.ensures row.if1.false _ NoForm _ stood.standing.ensures c.enum_told.given.1 refl
+returns-in-NoForm c =
+    faulty _ _ _ c.find-form.ensures c.if-row-eq-NO_ROW.false _ NoForm _ c.standing-found.ensures c.in-NoForm.is refl
 
-returns_3 : tie.Need-returns-3
+pub returns-in-Deep : goal.returns-in-Deep
 unfolding verdict_by judged_of
-returns_3 c =
-    let stood = c.before.before in
-    let row = stood.before.before in
-    faulty _ _ _ row.before.find.ensures row.if1.false _ Deep _ stood.standing.ensures c.enum-told2.given.1 refl
+returns-in-Deep c =
+    faulty _ _ _ c.find-form.ensures c.if-row-eq-NO_ROW.false _ Deep _ c.standing-found.ensures c.in-Deep.is refl
 
-returns_4 : tie.Need-returns-4
+pub returns-in-Large : goal.returns-in-Large
 unfolding verdict_by judged_of
-returns_4 c =
-    let stood = c.before.before in
-    let row = stood.before.before in
-    faulty _ _ _ row.before.find.ensures row.if1.false _ Large _ stood.standing.ensures c.enum-told3.given.1 refl
+returns-in-Large c =
+    faulty _ _ _ c.find-form.ensures c.if-row-eq-NO_ROW.false _ Large _ c.standing-found.ensures c.in-Large.is refl
 
-returns_5 : tie.Need-returns-5
-returns_5 c =
-    let told = c.before.before in
-    let stood = told.before.before.before in
-    let row = stood.before.before in
-    above _ _ _ row.before.find.ensures row.if1.false _ _ _ _ stood.standing.ensures told.before.found.given.1
-    c.before.highest.ensures c.valued.ensures
+pub returns-in-Above : goal.returns-in-Above
+returns-in-Above c =
+    above _ _ _ c.find-form.ensures c.if-row-eq-NO_ROW.false _ _ _ _ c.standing-found.ensures c.in-Above.is
+    c.highest.ensures c.valued.ensures
 
-returns_6 : tie.Need-returns-6
-returns_6 c =
-    let low = c.before.before in
-    let told = low.before in
-    let stood = told.before.before.before in
-    let row = stood.before.before in
-    below _ _ _ row.before.find.ensures row.if1.false _ _ _ _ _ stood.standing.ensures told.before.found2.given.1
-    low.lowest.ensures c.before.back.ensures c.valued2.ensures
-
-pub judge_spec : {M : Type 1} → statement M
-judge_spec =
-    tie.close
-    (tie.spec (search rules) returns sub_standing part_standing_start part_standing_end (search rules) (search rules) (search rules)
-    (search rules) (search rules) (search rules) (search rules) (search rules) (search rules) (search rules) (search rules) returns_2
-    returns_3 returns_4 returns_5 returns_6)
+pub returns-in-Below : goal.returns-in-Below
+returns-in-Below c =
+    below _ _ _ c.find-form.ensures c.if-row-eq-NO_ROW.false _ _ _ _ _ c.standing-found.ensures c.in-Below.is
+    c.lowest.ensures c.back.ensures c.valued-in-Below.ensures
