@@ -100,6 +100,12 @@ def errors(text, crate):
     return sorted(found, key=lambda error: not any(f"/{file}:" in error[0] for file in OWN))
 
 
+def own_file(place):
+    """The file, from the crate's name on, of a place in a function's own proof; nothing of another place."""
+    file = place.rpartition(":")[0]
+    return file if re.search(rf"/proofs/.+/({'|'.join(map(re.escape, OWN))})$", file) else None
+
+
 def left_open(text):
     """What is left to show of functions of whose proof files none is at fault: {the function with its crate: the goals}."""
     told = re.findall(r"^fn (\S+): no proof: .*`search` did not prove (.*)$", text, re.M)

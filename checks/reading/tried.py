@@ -3,12 +3,14 @@ import concurrent.futures
 import hashlib
 import os
 import pathlib
+import re
 import shutil
 import subprocess
 import tempfile
 
 from . import crates, must_fail, prover
 
+CONDITION = r"(eq|ne|lt|le|gt|ge)?\d+|eq|ne|lt|le|gt|ge"  # in the name of a place: what a condition compares with
 LANES = int(os.environ.get("RT_JOBS") or min(4, os.cpu_count() or 1))  # crates that are tried side by side
 
 
@@ -41,18 +43,56 @@ def copy(root, name, folder):
     crates.write_list(folder, under, root)
 
 
+def turned(was, now):
+    """The part of a place's name in which two differ, where it is what one condition compares with; nothing where they differ otherwise."""
+    one, two = was.split("-"), now.split("-")
+    parts = [at for at in range(min(len(one), len(two))) if one[at] != two[at]]
+    if len(one) == len(two) and len(parts) == 1 and parts[0] > 0 and all(re.fullmatch(CONDITION, name[parts[0]]) for name in (one, two)):
+        return tuple("-".join(name[parts[0] - 1 : parts[0] + 1]) for name in (one, two))
+    return None
+
+
+def renamed(text, crate, said):
+    """What proof files call places behind a condition whose sign or number an edit has changed, and what the prover calls them now:
+    {file: the pairs}. Said is what a file has."""
+    labels, found = set(re.findall(r"`([\w-]+)`", text)), {}
+    for place, words in prover.errors(text, crate):
+        told, file = re.search(r"has no (?:field )?`([\w-]+)`", words), prover.own_file(place)
+        if told and file:
+            pairs = {turned(told.group(1), label) for label in labels if not re.search(rf"\b{re.escape(label)}\b", said(file))} - {None}
+            if len(pairs) == 1:
+                found.setdefault(file, set()).update(pairs)
+    return found
+
+
+def follow(folder, changes):
+    """Has proof files name the places as the prover does now; gives what they were."""
+    before = {}
+    for file, pairs in changes.items():
+        path = folder / "crates" / file
+        before[path] = text = path.read_text()
+        for was, now in sorted(pairs):
+            text = re.sub(rf"(?<![\w]){re.escape(was)}(?![\w])", now, text)
+        path.write_text(text)
+    return before
+
+
 def tried(folder, name, path, sum):
     """What is kept of the try of one edit in a copy: the sum, the status, and the prover's words."""
     crate = folder / "crates" / name
     after, fault = must_fail.applied(crate, path)
     if fault:
         return f"{sum}\nstatus 2\n{fault}"
-    before = {file: (crate / file).read_text() for file in after}
+    before = {crate / file: (crate / file).read_text() for file in after}
     for file, text in after.items():
         (crate / file).write_text(text)
     status, text, _ = prover.check(folder, name, "--jobs", "1")
-    for file, text_before in before.items():
-        (crate / file).write_text(text_before)
+    changes = renamed(text, name, lambda file: (folder / "crates" / file).read_text()) if status == 1 else {}
+    if changes:
+        before = {**follow(folder, changes), **before}
+        status, text, _ = prover.check(folder, name, "--jobs", "1")
+    for file, was in before.items():
+        file.write_text(was)
     return f"{sum}\nstatus {status}\n{text}"
 
 
