@@ -104,21 +104,21 @@ module _ (s : Cpu) (m : Memory) where
       ⊎ ((s.sp ≡ 0xFF10) × (bit_and (byte_at m 0xFFFF) (high_of s.pc) % 32 ≡ 0))
 
   module _ (l : length m ≡ memory_size) (sp : s.sp < 65536) (due : pending_of m ≢ 0) where
-    cancels-by : (b c : Bool) → eqb s.sp 0 ≡ b → eqb s.sp 0xFF10 ≡ c → pending_of by_then ≡ 0 → Cancels
+    cancels_by : (b c : Bool) → eqb s.sp 0 ≡ b → eqb s.sp 0xFF10 ≡ c → pending_of by_then ≡ 0 → Cancels
     unfolding back difference_of
-    cancels-by true c p q e =
+    cancels_by true c p q e =
         let z = eqb-true s.sp 0 p in inl (z, sym (pending_by_ie l (omega (arith, z))) ∙ e)
-    cancels-by false true p q e =
+    cancels_by false true p q e =
         let z = eqb-true s.sp 0xFF10 q in inr (z, sym (pending_by_if l (omega (arith, z))) ∙ e)
-    cancels-by false false p q e =
+    cancels_by false false p q e =
         let x = eqb-false s.sp 0 p in
         let y = eqb-false s.sp 0xFF10 q in
         absurd (due (sym (pending_kept (λ k. x (omega (arith, k, sp))) (λ k. y (omega (arith, k, sp)))) ∙ e))
 
-    pub cancelled-exactly : (pending_of by_then ≡ 0) ↔ Cancels
+    pub cancelled_exactly : (pending_of by_then ≡ 0) ↔ Cancels
     unfolding back difference_of
-    cancelled-exactly = (
-      cancels-by _ _ refl refl,
+    cancelled_exactly = (
+      cancels_by _ _ refl refl,
       ⊎_elim (λ h. pending_by_ie l (omega (arith, h.0)) ∙ h.1) (λ h. pending_by_if l (omega (arith, h.0)) ∙ h.1),
     )
 

@@ -23,7 +23,7 @@ use Rattle.routines.specs.Steps.{after_steps}
 use Rattle.routines.specs.Premises.{Given}
 use Rattle.routines.specs.Adding.{adding_routine, end_flags, Added}
 use Rattle.routines.proofs.Stepping.{Takes, recount, taken, ◌then◌}
-use Rattle.routines.proofs.Opcodes.{running, and-a, ret}
+use Rattle.routines.proofs.Opcodes.{running, and_a, ret}
 use Rattle.routines.proofs.Registers.{next}
 use Rattle.routines.proofs.Fields.{num_below, standing}
 use Rattle.routines.proofs.Tail.{finished}
@@ -77,7 +77,7 @@ module _ {r : ℕ} {s : Cpu} {m : Memory} {dst src : ℕ} (g : Given adding_rout
   steps =
       let size : length looped.mem ≡ memory_size = looped.sum.filled.size ∙ g.memory in
       recount
-      (and-a g.memory g.f (next _ (s.pc + 1) (omega arith)) (rw add-zero at (g.pc 0 (lit< tt)))
+      (and_a g.memory g.f (next _ (s.pc + 1) (omega arith)) (rw add-zero at (g.pc 0 (lit< tt)))
       then looped.ran
       then ret size (flags_low true true false looped.over) kept_code kept_stack)
       (omega arith) (omega arith)

@@ -2,11 +2,10 @@
 -- Assumes nothing.
 use Prim.Native.Nat.{ℕ, zero, suc, ◌+◌, ◌%◌, ◌<◌, ◌≤◌}
 use mathlib.Core.List.{List, [], ◌∷◌}
-use mathlib.Core.Logic.{◌⊎◌, inl, inr, ◌≢◌}
+use mathlib.Core.Logic.{◌⊎◌, inl, inr}
 use mathlib.Core.Path.{◌≡◌, refl, ◌∙◌}
 use native.Mathlib.Nat.{add-zero}
 use native.Mathlib.Omega.{arith}
-use lib.Dec.{lit<}
 use lib.ListN.{length, get_or, length-replicate, get_or-replicate}
 use Rattle.arith.specs.Width.{sum_of}
 use Rattle.arith.specs.Words.{further}
@@ -15,9 +14,9 @@ use Rattle.machine.specs.Memory.{memory_size, Memory, byte_at}
 use Rattle.machine.specs.Interrupts.{pending_of}
 use Rattle.machine.proofs.ReadOverWrite.{stored_length, stored_same, stored_other}
 use Rattle.routines.specs.Decimals.{Decimal, Digits}
-use Rattle.routines.specs.Premises.{Apart, Outside, Given}
+use Rattle.routines.specs.Premises.{Apart, Outside}
 use Rattle.routines.specs.Adding.{adding_routine}
-use Rattle.routines.specs.Edges.{written, all_of, edge_memory, Edge, edge, edge_cpu, Met, Edges}
+use Rattle.routines.specs.Edges.{written, all_of, edge_memory, Edge, Met, Edges}
 use Rattle.routines.proofs.Fields.{one_on}
 
 -- reading what was written

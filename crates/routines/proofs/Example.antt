@@ -44,13 +44,13 @@ piece_at k ps = get_or ps k (piece 65536 [])
 above : (at : ℕ) (ps : List Piece) → InOrder at ps → (k : ℕ) → at ≤ (piece_at k ps).from
 above at [] o k = o
 above at (p ∷ ps) o zero = o.0
-above at (p ∷ ps) o (suc k) = omega (arith, o.0, above _ ps o.1 k)
+above at (p ∷ ps) o (suc k) = omega (arith, o.0, above (p.from + length p.bytes) ps o.1 k)
 
 laid_length : (at : ℕ) (ps : List Piece) → InOrder at ps → length (laid at ps) + at ≡ memory_size
 unfolding laid
 laid_length at [] o = rw zeros_length (omega arith)
 laid_length at (p ∷ ps) o =
-    rw (length-append, length-append, zeros_length) (omega (arith, o.0, laid_length _ ps o.1))
+    rw (length-append, length-append, zeros_length) (omega (arith, o.0, laid_length (p.from + length p.bytes) ps o.1))
 
 -- a byte of the k-th piece: x counts from `at`, and i from the piece's first byte
 laid_at : (at : ℕ) (ps : List Piece) → InOrder at ps → (k x i : ℕ) → x + at ≡ (piece_at k ps).from + i → i < length (piece_at k ps).bytes

@@ -100,42 +100,42 @@ module _ {routine : List ℕ} {p n : ℕ} {m : Memory} {dst src : ℕ} (y : Stan
 
   -- what a byte stored at the destination's first place leaves
   module _ (v : ℕ) where
-    code-kept : (i : ℕ) → i < length routine → byte_at (stored m dst v) (p + i) ≡ get_or routine i 0
-    code-kept i h =
+    code_kept : (i : ℕ) → i < length routine → byte_at (stored m dst v) (p + i) ≡ get_or routine i 0
+    code_kept i h =
         stored_other m dst v (p + i) (omega (arith, y.clear i 0 h (omega arith))) ∙ y.code i h
 
-    rest-of-dst : (i : ℕ) → byte_at (stored m dst v) (dst + 1 + i) ≡ byte_at m (dst + 1 + i)
-    rest-of-dst i = stored_other m dst v _ (omega arith)
+    rest_of_dst : (i : ℕ) → byte_at (stored m dst v) (dst + 1 + i) ≡ byte_at m (dst + 1 + i)
+    rest_of_dst i = stored_other m dst v _ (omega arith)
 
-    rest-of-src : (i : ℕ) → i < n → byte_at (stored m dst v) (src + 1 + i) ≡ byte_at m (src + 1 + i)
-    rest-of-src i h = stored_other m dst v _ (omega (arith, y.ahead (suc i) 0 (omega arith) (omega arith)))
+    rest_of_src : (i : ℕ) → i < n → byte_at (stored m dst v) (src + 1 + i) ≡ byte_at m (src + 1 + i)
+    rest_of_src i h = stored_other m dst v _ (omega (arith, y.ahead (suc i) 0 (omega arith) (omega arith)))
 
     pub onward : Standing routine p n (stored m dst v) (dst + 1) (src + 1)
     onward =
         record {
           size = stored_length m dst v ∙ y.size;
-          code = code-kept;
+          code = code_kept;
           dst_fits = omega arith;
           src_fits = omega arith;
           clear = λ i j a b. omega (arith, y.clear i (suc j) a (omega arith));
           ahead = λ i j a b. omega (arith, y.ahead (suc i) (suc j) (omega arith) (omega arith));
-          dst_digits = λ i h. rw (rest-of-dst i, one_on) (y.dst_digits (suc i) (omega arith));
-          src_digits = λ i h. rw (rest-of-src i h, one_on) (y.src_digits (suc i) (omega arith));
+          dst_digits = λ i h. rw (rest_of_dst i, one_on) (y.dst_digits (suc i) (omega arith));
+          src_digits = λ i h. rw (rest_of_src i h, one_on) (y.src_digits (suc i) (omega arith));
         }
 
-    pub dst-number : num (stored m dst v) (dst + 1) n ≡ num m (dst + 1) n
-    dst-number = num_same m (stored m dst v) (dst + 1) n (λ i h. rest-of-dst i)
+    pub dst_number : num (stored m dst v) (dst + 1) n ≡ num m (dst + 1) n
+    dst_number = num_same m (stored m dst v) (dst + 1) n (λ i h. rest_of_dst i)
 
-    pub src-number : num (stored m dst v) (src + 1) n ≡ num m (src + 1) n
-    src-number = num_same m (stored m dst v) (src + 1) n rest-of-src
+    pub src_number : num (stored m dst v) (src + 1) n ≡ num m (src + 1) n
+    src_number = num_same m (stored m dst v) (src + 1) n rest_of_src
 
     -- with the rest filled, the whole is
     module _ {mem : Memory} (w : Filled n (stored m dst v) mem (dst + 1)) where
-      pub filled-first : byte_at mem dst ≡ v
-      filled-first = w.kept dst (λ j h. omega arith) ∙ stored_same m dst v dst_within
+      pub filled_first : byte_at mem dst ≡ v
+      filled_first = w.kept dst (λ j h. omega arith) ∙ stored_same m dst v dst_within
 
       all_digits : Decimal v → Digits mem dst (suc n)
-      all_digits d zero h = rw (add-zero, filled-first) d
+      all_digits d zero h = rw (add-zero, filled_first) d
       all_digits d (suc i) h = rw one_on at (w.digits i (omega arith))
 
       pub filled_more : Decimal v → Filled (suc n) m mem dst

@@ -20,7 +20,7 @@ use Rattle.routines.proofs.Stepping.{Takes, recount, ◌then◌}
 use Rattle.routines.proofs.Opcodes.{running}
 use Rattle.routines.proofs.Registers.{word_next, further_next, decreased_c, decreased_count}
 use Rattle.routines.proofs.Digits.{sum_decimal, sum_worth, more_digits}
-use Rattle.routines.proofs.Fields.{one_on, num_zero, num_suc, Standing, dst_first, src_first, onward, dst-number, src-number, Filled, filled_none, filled-first, filled_more}
+use Rattle.routines.proofs.Fields.{one_on, num_zero, num_suc, Standing, dst_first, src_first, onward, dst_number, src_number, Filled, filled_none, filled_first, filled_more}
 use Rattle.routines.proofs.Tail.{between, finished}
 use Rattle.routines.proofs.Turn.{turned, turn_last, turn_on}
 
@@ -42,11 +42,11 @@ module _ {p n : ℕ} {m : Memory} {dst src : ℕ} (y : Standing adding_routine p
       let z = byte_at m src in
       let e : worth v + 100 * one_if (c_of (turned m dst src f).flags) ≡ worth x + worth z + one_if (c_of f) =
       omega (arith, sum_worth z x (c_of f) (src_first y) (dst_first y)) in
-      let g = rw (dst-number y v, src-number y v) at w.number in
+      let g = rw (dst_number y v, src_number y v) at w.number in
       record {
         filled = filled_more y v w.filled (sum_decimal z x (c_of f) (src_first y) (dst_first y));
         number =
-            rw (num_suc mem, num_suc m dst, num_suc m src, filled-first y v w.filled, pow-succ')
+            rw (num_suc mem, num_suc m dst, num_suc m src, filled_first y v w.filled, pow-succ')
             (more_digits (worth v) (worth x) (worth z) _ _ _ _ _ _ _ e g);
       }
 
@@ -68,7 +68,7 @@ module _ {p : ℕ} (fits : p + 10 ≤ 65536) {m : Memory} {dst src a f b c d e h
       record {
         mem = stored m dst v;
         over = k;
-        ran = rw (add-zero, filled-first y v none.filled) (turn_last y fits low de hl count);
+        ran = rw (add-zero, filled_first y v none.filled) (turn_last y fits low de hl count);
         sum = sum_more y f none;
       }
 

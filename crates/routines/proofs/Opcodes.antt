@@ -62,37 +62,37 @@ module _ {m : Memory} {a f b c d e h l sp pc : ℕ} (size : length m ≡ memory_
 
   -- instructions of one byte that go on to the next
   module _ {pc' : ℕ} (on : further 1 pc ≡ pc') where
-    pub and-a : byte_at m pc ≡ 0xA7 → Takes 1 1 (running a f b c d e h l sp pc) m
+    pub and_a : byte_at m pc ≡ 0xA7 → Takes 1 1 (running a f b c d e h l sp pc) m
         (running (alu_of And a a f).value (alu_of And a a f).flags b c d e h l sp pc') m
     unfolding order flow grid shapes acts
-    and-a op = insn (rw (op, further_none, on))
+    and_a op = insn (rw (op, further_none, on))
 
-    pub load-a-de : {at : ℕ} → byte_at m pc ≡ 0x1A → word_of d e ≡ at → Takes 1 2 (running a f b c d e h l sp pc) m
+    pub load_a_de : {at : ℕ} → byte_at m pc ≡ 0x1A → word_of d e ≡ at → Takes 1 2 (running a f b c d e h l sp pc) m
         (running (byte_at m at) f b c d e h l sp pc') m
     unfolding order flow grid shapes acts
-    load-a-de op de = insn (rw (op, further_none, on, de))
+    load_a_de op de = insn (rw (op, further_none, on, de))
 
-    pub adc-a-hl : {at : ℕ} → byte_at m pc ≡ 0x8E → word_of h l ≡ at → Takes 1 2 (running a f b c d e h l sp pc) m
+    pub adc_a_hl : {at : ℕ} → byte_at m pc ≡ 0x8E → word_of h l ≡ at → Takes 1 2 (running a f b c d e h l sp pc) m
         (running (alu_of Adc a (byte_at m at) f).value (alu_of Adc a (byte_at m at) f).flags b c d e h l sp pc') m
     unfolding order flow grid shapes acts
-    adc-a-hl op hl = insn (rw (op, further_none, on, hl))
+    adc_a_hl op hl = insn (rw (op, further_none, on, hl))
 
     pub daa : byte_at m pc ≡ 0x27 → Takes 1 1 (running a f b c d e h l sp pc) m
         (running (decimal_of a f).value (decimal_of a f).flags b c d e h l sp pc') m
     unfolding order flow grid shapes acts
     daa op = insn (rw (op, further_none, on))
 
-    pub store-a-hli : {at : ℕ} → byte_at m pc ≡ 0x22 → word_of h l ≡ at → Takes 1 2 (running a f b c d e h l sp pc) m
+    pub store_a_hli : {at : ℕ} → byte_at m pc ≡ 0x22 → word_of h l ≡ at → Takes 1 2 (running a f b c d e h l sp pc) m
         (running a f b c d e (high_of (further 1 at)) (low_of (further 1 at)) sp pc') (stored m at a)
     unfolding order flow grid shapes acts
-    store-a-hli op hl = insn (rw (op, further_none, on, hl))
+    store_a_hli op hl = insn (rw (op, further_none, on, hl))
 
-    pub inc-de : {at : ℕ} → byte_at m pc ≡ 0x13 → word_of d e ≡ at → Takes 1 2 (running a f b c d e h l sp pc) m
+    pub inc_de : {at : ℕ} → byte_at m pc ≡ 0x13 → word_of d e ≡ at → Takes 1 2 (running a f b c d e h l sp pc) m
         (running a f b c (high_of (further 1 at)) (low_of (further 1 at)) h l sp pc') m
     unfolding order flow grid shapes acts
-    inc-de op de = insn (rw (op, further_none, on, de))
+    inc_de op de = insn (rw (op, further_none, on, de))
 
-    pub dec-b : byte_at m pc ≡ 0x05 → Takes 1 1 (running a f b c d e h l sp pc) m
+    pub dec_b : byte_at m pc ≡ 0x05 → Takes 1 1 (running a f b c d e h l sp pc) m
         (running a (decreased_of b f).flags (decreased_of b f).value c d e h l sp pc') m
     unfolding order flow grid shapes acts
-    dec-b op = insn (rw (op, further_none, on))
+    dec_b op = insn (rw (op, further_none, on))

@@ -17,7 +17,7 @@ use Rattle.arith.proofs.Laws.{flags_low, z_back, decreased_fits}
 use Rattle.machine.specs.Memory.{Memory, stored}
 use Rattle.machine.specs.declared.Cpu.{Cpu}
 use Rattle.routines.proofs.Stepping.{Takes, ◌then◌}
-use Rattle.routines.proofs.Opcodes.{running, store-a-hli, inc-de, dec-b, jr_nz_taken, jr_nz_not}
+use Rattle.routines.proofs.Opcodes.{running, store_a_hli, inc_de, dec_b, jr_nz_taken, jr_nz_not}
 use Rattle.routines.proofs.Registers.{next, decreased_z}
 use Rattle.routines.proofs.Fields.{Standing, onward}
 
@@ -52,9 +52,9 @@ module _ {routine : List ℕ} {q back p n : ℕ} {m : Memory} {dst src : ℕ} (x
   counted : Takes 3 5 (running v f b c d e h l sp (p + q)) m (between v f b c dst src sp (p + (q + 3))) (stored m dst v)
   counted =
       let t = onward y v in
-      store-a-hli y.size low (next _ _ (omega arith)) (y.code q (omega arith) ∙ x.store) hl
-      then inc-de t.size low (next _ (p + (q + 2)) (omega arith)) (t.code (q + 1) (omega arith) ∙ x.inc) de
-      then dec-b t.size low (next _ _ (omega arith)) (t.code (q + 2) (omega arith) ∙ x.dec)
+      store_a_hli y.size low (next _ _ (omega arith)) (y.code q (omega arith) ∙ x.store) hl
+      then inc_de t.size low (next _ (p + (q + 2)) (omega arith)) (t.code (q + 1) (omega arith) ∙ x.inc) de
+      then dec_b t.size low (next _ _ (omega arith)) (t.code (q + 2) (omega arith) ∙ x.dec)
 
   -- the last byte: JR is not taken
   pub tail_last : b ≡ 1 → Takes 4 7 (running v f b c d e h l sp (p + q)) m

@@ -14,7 +14,7 @@ use Rattle.arith.specs.declared.Byte.{Byte}
 use Rattle.machine.specs.Memory.{Memory, byte_at, stored}
 use Rattle.routines.specs.Adding.{adding_routine}
 use Rattle.routines.proofs.Stepping.{Takes, ◌then◌}
-use Rattle.routines.proofs.Opcodes.{running, load-a-de, adc-a-hl, daa}
+use Rattle.routines.proofs.Opcodes.{running, load_a_de, adc_a_hl, daa}
 use Rattle.routines.proofs.Registers.{next}
 use Rattle.routines.proofs.Digits.{adjusted, adjusted_low}
 use Rattle.routines.proofs.Tail.{between, finished, Ends, tail_last, tail_on}
@@ -40,8 +40,8 @@ module _ {p r : ℕ} {m : Memory} {dst src : ℕ} (y : Standing adding_routine p
       (running (turned m dst src f).value (turned m dst src f).flags b c d e h l sp (p + 4)) m
   unfolding alu_of added_of adjusted
   summed =
-      load-a-de y.size low (next _ (p + 2) (omega arith)) (y.code 1 (lit< tt)) de
-      then adc-a-hl y.size low (next _ (p + 3) (omega arith)) (y.code 2 (lit< tt)) hl
+      load_a_de y.size low (next _ (p + 2) (omega arith)) (y.code 1 (lit< tt)) de
+      then adc_a_hl y.size low (next _ (p + 3) (omega arith)) (y.code 2 (lit< tt)) hl
       then daa y.size (flags_low _ _ _ _) (next _ _ (omega arith)) (y.code 3 (lit< tt))
 
   -- the last byte

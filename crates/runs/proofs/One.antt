@@ -1,8 +1,7 @@
 -- `Stepwise` says all that there is to say of a run: two outcomes of which it holds are one. So nothing in it can be left out.
 -- Assumes nothing.
-use Prim.Native.Nat.{ℕ, zero, suc, ◌<◌, ◌≤◌}
+use Prim.Native.Nat.{ℕ, zero, suc, ◌≤◌}
 use mathlib.Core.Bool.{Bool, true, false}
-use mathlib.Core.Logic.{◌≢◌}
 use mathlib.Core.Path.{◌≡◌, refl, sym, ◌∙◌, ap}
 use native.Mathlib.Omega.{arith}
 use borrow.Author.Tests.{ltb-true, ltb-false}
@@ -29,28 +28,28 @@ module _ {b : ℕ} {s : Cpu} {m : Memory} where
     no_more = at_most _ refl _ refl
 
   module _ {w v : With Ran} (x : Stepwise b s m w) (y : Stepwise b s m v) where
-    same-steps : w.out.steps ≡ v.out.steps
-    same-steps = omega (arith, no_more x y, no_more y x)
+    same_steps : w.out.steps ≡ v.out.steps
+    same_steps = omega (arith, no_more x y, no_more y x)
 
     same_after : after_steps w.out.steps s m ≡ after_steps v.out.steps s m
-    same_after = ap (λ (k : ℕ). after_steps k s m) same-steps
+    same_after = ap (λ (k : ℕ). after_steps k s m) same_steps
 
-    same-spent : w.out.spent ≡ v.out.spent
-    same-spent = x.spent ∙ ap (λ (k : ℕ). costs k s m) same-steps ∙ sym y.spent
+    same_spent : w.out.spent ≡ v.out.spent
+    same_spent = x.spent ∙ ap (λ (k : ℕ). costs k s m) same_steps ∙ sym y.spent
 
     same_next : (step_after w.out.steps s m).out.code ≡ (step_after v.out.steps s m).out.code
-    same_next = ap (λ (k : ℕ). (step_after k s m).out.code) same-steps
+    same_next = ap (λ (k : ℕ). (step_after k s m).out.code) same_steps
 
     code_at : (c d : ℕ) → w.out.code ≡ c → v.out.code ≡ d → w.out.code ≡ v.out.code
     code_at zero zero e g = e ∙ sym g
-    code_at zero (suc d) e g = absurd (omega (arith, x.met e, y.below (omega arith), same-spent))
-    code_at (suc c) zero e g = absurd (omega (arith, y.met g, x.below (omega arith), same-spent))
+    code_at zero (suc d) e g = absurd (omega (arith, x.met e, y.below (omega arith), same_spent))
+    code_at (suc c) zero e g = absurd (omega (arith, y.met g, x.below (omega arith), same_spent))
     code_at (suc c) (suc d) e g = sym (x.refused (omega arith)) ∙ same_next ∙ y.refused (omega arith)
 
-    pub one-run : w ≡ v
-    one-run =
+    pub one_run : w ≡ v
+    one_run =
         let code = code_at _ _ refl refl in
         let ends = sym x.taken ∙ same_after ∙ y.taken in
         let cpu = ap (λ (u : With Stepped). u.out.cpu) ends in
         let mem = ap (λ (u : With Stepped). u.mem) ends in
-        λ i. record { out = record { code = code i; spent = same-spent i; steps = same-steps i; cpu = cpu i }; mem = mem i }
+        λ i. record { out = record { code = code i; spent = same_spent i; steps = same_steps i; cpu = cpu i }; mem = mem i }

@@ -107,9 +107,9 @@ module _ (b spent steps : ℕ) (s : Cpu) (m : Memory) where
   -- the step that is due is accepted
   module _ (p : spent < b) (e : (step_of s m).out.code ≡ 0) (w : With Ran)
       (g : Onward b (spent + (step_of s m).out.cycles) (steps + 1) (step_of s m).out.cpu (step_of s m).mem w) where
-    due-before : (k : ℕ) → k < suc g.count → (more_steps k (stepped 0 spent s m)).out.cycles < b
-    due-before zero h = unfold more_steps in p
-    due-before (suc k) h = rw (first_then k spent s m e) (g.due k (omega arith))
+    due_before : (k : ℕ) → k < suc g.count → (more_steps k (stepped 0 spent s m)).out.cycles < b
+    due_before zero h = unfold more_steps in p
+    due_before (suc k) h = rw (first_then k spent s m e) (g.due k (omega arith))
 
     goes_on_lem : Onward b spent steps s m w
     goes_on_lem =
@@ -117,7 +117,7 @@ module _ (b spent steps : ℕ) (s : Cpu) (m : Memory) where
           count = suc g.count;
           total = g.total ∙ omega arith;
           taken = first_then g.count spent s m e ∙ g.taken;
-          due = due-before;
+          due = due_before;
           met = g.met;
           below = g.below;
           refused = g.refused;

@@ -64,9 +64,9 @@ module _ (image : List ℕ) (l : Loaded) (opened : l ≡ (open_of image).out) wh
     pub size_is : length image ≡ image_size
     size_is = (accepted_right image_size image opens).size_is
 
-    state-is : l.cpu ≡ state_in image
+    state_is : l.cpu ≡ state_in image
     unfolding open_of load_of loaded_by state_if unless_refused
-    state-is = rw (opened, opens)
+    state_is = rw (opened, opens)
 
     -- the head of a valid state is written
     written : (s : Cpu) (old : List ℕ) (r : ℕ) (h : List ℕ) → length old ≡ head_size → s.f % 16 ≡ 0
@@ -75,13 +75,13 @@ module _ (image : List ℕ) (l : Loaded) (opened : l ≡ (open_of image).out) wh
     written s old r h size p saved =
         rw (head_fits_accepted s old (record { size_is = size; flags_low = p })) at saved.leaves
 
-    pub image-run : (b : ℕ) (w : Ran) (m h : List ℕ) (r : ℕ) → Gives (run_of b l.cpu (lent image)) w m
+    pub image_run : (b : ℕ) (w : Ran) (m h : List ℕ) (r : ℕ) → Gives (run_of b l.cpu (lent image)) w m
         → Gives (save_head_of w.cpu (take head_size (returned image m))) r h
         → ImageGives (run_image_of b image) w.code (h ++ drop head_size (returned image m)) w.spent w.steps
     unfolding run_image_of run_image_if image_ran image_of memory_in unless_refused
-    image-run b w m h r ran saved =
+    image_run b w m h r ran saved =
         let long : head_size ≤ length image = omega (arith, size_is) in
-        let now = rw (state-is, part_to_end image head_size) at ran in
+        let now = rw (state_is, part_to_end image head_size) at ran in
         let low : w.cpu.f % 16 ≡ 0 =
         rw now.answers (run_low b (state_in image) (drop head_size image) (loads_low image_size image opens)) in
         let head = written w.cpu _ r h (front_length image m long) low saved in

@@ -3,7 +3,6 @@
 -- Assumes nothing.
 use Prim.Native.Nat.{ℕ}
 use mathlib.Core.List.{List}
-use mathlib.Core.Path.{◌≡◌}
 use Rattle.arith.proofs.Unique.{same, OneAnswer, OneOutcome}
 use Rattle.machine.proofs.Unique.{gives_one}
 use Rattle.trnadulek.proofs.trnadulek_step.Reads as step

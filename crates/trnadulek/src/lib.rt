@@ -2,6 +2,7 @@
 // bytes; a head is the 23 bytes of a saved state, with its block inside. No function asks anything of its caller or keeps anything
 // between two calls.
 #![tactic(auto)]
+
 mod wording;
 
 ghost use Rattle.std.specs.Prelude.{◌≡◌};
