@@ -11,6 +11,7 @@ class MustFail:
     promise: str  # a public function, or nothing
     theorem: str = ""  # or a law whose statement is changed
     places: list = field(default_factory=list)  # each a file of the crate and the text in it that is changed
+    changes: list = field(default_factory=list)  # each such text and the one in its place
 
 
 def edits(crate):
@@ -39,6 +40,8 @@ def in_file(path):
                 fresh = False
         elif word == "old:":
             found[-1].places.append((source, rest))
+        elif word == "new:":
+            found[-1].changes.append((found[-1].places[-1][1], rest))
     return found
 
 

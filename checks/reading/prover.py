@@ -142,14 +142,29 @@ def weighed(place, words):
     return "refused" if fit and any(re.search(kind, words) for kind in FACT) else "unfit"
 
 
-def own(text, crate, function):
-    """The verdict on one function of a check that failed: by the errors in its own proof, of which none may be of form, or, where
-    no file of it is at fault, by what is left open of it. One that calls itself has a + before its name there."""
+def calls(text):
+    """The calls of a stretch of code: {name: the arguments of each, in order}."""
+    found = {}
+    for name, arguments in re.findall(r"\b(\w+)\(([^()]*(?:\([^()]*\)[^()]*)*)\)", text):
+        found.setdefault(name, []).append(" ".join(arguments.split()))
+    return found
+
+
+def exchanged(changes):
+    """Whether an edit, as (old, new), has calls of one name in another order. The prover counts them off where it names a function's
+    steps, so that a proof file then speaks of each in the place of the other."""
+    before, after = (calls("\n".join(texts)) for texts in zip(*changes)) if changes else ({}, {})
+    return any(some != after.get(name) and sorted(some) == sorted(after.get(name, [])) for name, some in before.items())
+
+
+def own(text, crate, function, changes=()):
+    """The verdict on one function of a check that failed after these changes: by the errors in its own proof, of which none may be
+    of form, or, where no file of it is at fault, by what is left open of it. One that calls itself has a + before its name there."""
     *folders, name = function.split("::")
     files = ["/".join(["", "proofs", *folders, f"{sign}{name}", f"{file}:"]) for sign in ("", "+") for file in OWN]
     found = [(place, words) for place, words in errors(text, crate) if any(file in place for file in files)]
     for place, words in sorted(found, key=lambda error: weighed(*error) != "unfit"):
-        return Answer(weighed(place, words), place, words, 0)
+        return Answer("unfit" if exchanged(changes) else weighed(place, words), place, words, 0)
     left = left_open(text).get(f"{crate}::{function}")
     if left:
         return Answer("refused", "", f"{function} leaves {' '.join(left)} open", 0)
