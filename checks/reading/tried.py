@@ -1,4 +1,5 @@
-"""What the prover says of each must-fail edit, whole: it is tried on a copy of its crate, and its words are kept in target/must-fail."""
+"""What the prover says of each must-fail edit: it is tried on a copy of its crate. The words that tell why it was refused are kept in
+checks/refused, under a sum of all that they rest on; they count while that is the same, and else the edit is tried again."""
 import concurrent.futures
 import hashlib
 import os
@@ -16,7 +17,21 @@ LANES = int(os.environ.get("RT_JOBS") or min(4, os.cpu_count() or 1))  # crates 
 
 def log(root, name, file):
     """Where the words on an edit are kept."""
-    return root / "target/must-fail" / name / f"{file}.log"
+    return root / "checks/refused" / name / f"{file}.log"
+
+
+TELLING = r"fn \S+: (?!proved)|note: \S+\.rt:\d+:\d+: it is not proved|\S+\.(antt|rt):\d+:\d+: error|rt: the library|logic=|  "
+WIDEST = 400
+
+
+def telling(text):
+    """The lines that say what is no longer proved, and why; and no more of a line than one reads."""
+    kept, error = [], 0
+    for line in text.split("\n"):
+        error = 4 if re.match(r"\S+: error", line) else max(error - 1, 0)
+        if re.match(TELLING, line) and (error or not line.startswith("  ")):
+            kept.append(line[:WIDEST])
+    return "\n".join(kept) + "\n"
 
 
 def files(root, name):
@@ -93,7 +108,7 @@ def tried(folder, name, path, sum):
         status, text, _ = prover.check(folder, name, "--jobs", "1")
     for file, was in before.items():
         file.write_text(was)
-    return f"{sum}\nstatus {status}\n{text}"
+    return f"{sum}\nstatus {status}\n{telling(text)}"
 
 
 def sum_of(path, base):
@@ -114,7 +129,7 @@ def try_crate(root, name):
         if status != 0:
             raise RuntimeError(f"{name} is not proved as it stands: {text.strip().split(chr(10))[-1]}")
         for path, kept, sum in todo:
-            words = tried(folder, name, path, sum)
+            words = tried(folder, name, path, sum).replace(str(folder), "")
             kept.parent.mkdir(parents=True, exist_ok=True)
             kept.write_text(words)
 
