@@ -1,5 +1,6 @@
 //! Finds libtrnadulek.a, or has it made: in the folder that TRNADULEK_LIB names, else in the
-//! repository's target/staticlib, where `rt staticlib trnadulek` puts it once it is proved.
+//! repository's crates/trnadulek/out, where `rt lib`, called in crates/trnadulek, puts it once it
+//! is proved.
 
 #[path = "build/library.rs"]
 mod library;
@@ -44,7 +45,7 @@ fn found_or_made(repository: &Path) -> PathBuf {
     }
     if !library::holds_archive(&folder) {
         give_up(&format!(
-            "rt staticlib trnadulek left no {}",
+            "rt lib left no {}",
             folder.join(ARCHIVE).display()
         ));
     }
@@ -53,14 +54,14 @@ fn found_or_made(repository: &Path) -> PathBuf {
 
 fn make(repository: &Path) {
     match Command::new("rt")
-        .args(["staticlib", "trnadulek"])
-        .current_dir(repository)
+        .arg("lib")
+        .current_dir(library::crate_folder(repository))
         .status()
     {
         Ok(status) if status.success() => {}
-        Ok(status) => give_up(&format!("rt staticlib trnadulek: {status}")),
+        Ok(status) => give_up(&format!("rt lib in crates/trnadulek: {status}")),
         Err(error) => give_up(&format!(
-            "rt staticlib trnadulek: {error}; set {FOLDER_VARIABLE} to the folder of {ARCHIVE}"
+            "rt lib in crates/trnadulek: {error}; set {FOLDER_VARIABLE} to the folder of {ARCHIVE}"
         )),
     }
 }
@@ -77,7 +78,7 @@ fn warn_if_older(archive: &Path, repository: &Path) {
     }
     if let Some(newer) = library::newer_than(archive, &sources) {
         println!(
-            "cargo:warning={} is older than {}: rt staticlib trnadulek makes it anew",
+            "cargo:warning={} is older than {}: rt lib in crates/trnadulek makes it anew",
             archive.display(),
             newer.display()
         );

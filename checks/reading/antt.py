@@ -2,6 +2,9 @@
 import re
 from dataclasses import dataclass, field
 
+# The files of a function's own proof, in its folder of proofs/.
+OWN = ("Answers.antt", "Invariants.antt", "Proof.antt")
+
 
 @dataclass
 class Declared:
@@ -10,14 +13,14 @@ class Declared:
     name: str
     kind: str  # "record", "data", or nothing
     public: bool
-    words: str  # `abbrev`, `unfoldable`, or nothing
+    words: str  # `abbrev`, `unfoldable`, `opaque`, or nothing
     given: str  # the parameters of the modules around it
     says: str  # the parameters and the type
     body: list = field(default_factory=list)  # the lines below: clauses, or fields and constructors
 
     def word(self):
         """The name as a text uses it: a sign stands there without its places' marks."""
-        return self.name.strip("_")
+        return self.name.strip("◌")
 
     def text(self):
         """All that the declaration means, on one line."""
@@ -49,7 +52,7 @@ def until(text, sign):
 
 def head(line):
     """The words, the kind, the name and the rest of a line that declares something; nothing for another line."""
-    told = re.match(r"((?:(?:pub|abbrev|unfoldable) )*)((?:record |data )?)([^\s(){}:;=]+)(.*)$", line.strip())
+    told = re.match(r"((?:(?:pub|abbrev|unfoldable|opaque) )*)((?:record |data )?)([^\s(){}:;=]+)(.*)$", line.strip())
     if not told or told.group(3) in ("use", "mod", "module", "unfolding", "where"):
         return None
     words, kind, name, rest = told.groups()
@@ -72,20 +75,22 @@ def declarations(text):
             modules.pop()
         level = modules[-1][0] + 2 if modules else 0
         module = re.match(r"\s*(?:pub )?module \S+(.*?)( where)?$", line)
-        if module and at == level:
-            modules.append((at, module.group(1)))
+        together = re.match(r"\s*((?:abbrev |unfoldable |opaque )*)mutual$", line)
+        if (module or together) and at == level:
+            modules.append((at, module.group(1), "") if module else (at, "", together.group(1)))
             last = None
             continue
         told = head(line) if at == level else None
         if told:
             words, kind, name, rest = told
-            given = flat(" ".join(one for _, one in modules))
+            given = flat(" ".join(one for _, one, _ in modules))
+            words = "".join(one for *_, one in modules) + words
             last = Declared(name, kind, "pub" in words.split(), flat(words.replace("pub ", "")), given, rest)
             found.append((last, at))
         elif last is not None:
             part_of(last, found[-1][1], at, line)
         elif modules and not re.match(r"\s*(use|pub mod|mod)\b", line):
-            modules[-1] = (modules[-1][0], f"{modules[-1][1]} {line.strip()}".removesuffix(" where"))
+            modules[-1] = (modules[-1][0], f"{modules[-1][1]} {line.strip()}".removesuffix(" where"), modules[-1][2])
     return [one for one, _ in found]
 
 

@@ -4,6 +4,7 @@ import re
 import shutil
 
 ROOT = pathlib.Path(__file__).resolve().parents[2]
+LEFT = shutil.ignore_patterns("out", "must-fail")  # of a crate that is copied for the prover
 
 
 def listed(root=ROOT):
@@ -13,7 +14,7 @@ def listed(root=ROOT):
         line = line.split("#")[0].strip()
         if line:
             name, _, below = line.partition(":")
-            found[name.strip()] = below.split()
+            found[name.split()[0]] = below.split()  # behind the name stands what kind of crate it is, if it is no usual one
     return found
 
 
@@ -39,7 +40,7 @@ def below(name, crates):
 def write_list(folder, names, root):
     """The lines of crates.txt for these crates, as they stand there."""
     lines = (root / "crates.txt").read_text().split("\n")
-    kept = [line for line in lines if line.split("#")[0].partition(":")[0].strip() in names]
+    kept = [line for line in lines if names & set(line.split("#")[0].partition(":")[0].split()[:1])]
     (folder / "crates.txt").write_text("\n".join(kept) + "\n")
 
 
@@ -55,7 +56,7 @@ def cited(texts, module):
 def part(text, wanted):
     """A file of laws with those alone that are wanted, and what they rest on in the file: blocks go by their names."""
     head, *blocks = re.split(r"\n\n(?=\S)", text.rstrip("\n"))
-    head = re.sub(r"^use Rattle·\w+·proofs\.proofs\.\w+\..* as .*\n?", "", head, flags=re.M).rstrip("\n")
+    head = re.sub(r"^use Rattle\.\w+\.proofs\.\w+\..* as .*\n?", "", head, flags=re.M).rstrip("\n")
     name = r"^\s*(?:pub |abbrev |unfoldable )*(?:record )?([^\s:(]+) ?(?:\([^:]*: [^)]*\) ?)*:"
     defined = [set(re.findall(name, block, re.M)) for block in blocks]
     kept, reached = set(), set(wanted)
@@ -75,14 +76,14 @@ def laws(name, wanted, root=ROOT):
         if not names <= asked.setdefault(file, set()):
             asked[file] |= names
             kept[file] = part((root / "crates" / name / "proofs" / f"{file}.antt").read_text(), asked[file])
-            todo += cited([kept[file]], f"Rattle·{name}·proofs\\.proofs").items()
+            todo += cited([kept[file]], f"Rattle\\.{name}\\.proofs").items()
     return kept
 
 
 def types(text):
     """The types of a crate's first file: without its modules and its functions."""
     text = re.sub(r"^(pub )?mod \w+;\n|^use \w+::[a-z_]+;\n", "", text, flags=re.M)
-    return re.sub(r"^(?://.*\n)*(?:pub )?fn (?:.*\n)*?\}\n\n?", "", text, flags=re.M)
+    return re.sub(r"^(?:(?://|#\[).*\n)*(?:pub )?fn (?:.*\n)*?\}\n\n?", "", text, flags=re.M)
 
 
 def called(top, crates, root):
@@ -114,16 +115,16 @@ def copy_under(folder, top, root=ROOT, whole=None, theorems=None):
         entire, texts = set(), [*kept.values(), *(path.read_text() for path in (root / "crates" / top / "specs").glob("*.antt"))]
     else:
         entire = called(top, crates, root) if whole is None else set(whole)
-        shutil.copytree(root / "crates" / top, folder / "crates" / top)
-        texts = [path.read_text() for path in (root / "crates" / top).glob("**/*.antt")]
+        shutil.copytree(root / "crates" / top, folder / "crates" / top, ignore=LEFT)
+        texts = [path.read_text() for path in (folder / "crates" / top).glob("**/*.antt")]
     under = [name for name in crates if name in below(top, crates)]
     for name in reversed(under):
         source, target = root / "crates" / name, folder / "crates" / name
         if name in entire:
-            shutil.copytree(source, target)
-            texts += [path.read_text() for path in source.glob("**/*.antt")]
+            shutil.copytree(source, target, ignore=LEFT)
+            texts += [path.read_text() for path in target.glob("**/*.antt")]
             continue
-        kept = laws(name, cited(texts, f"Rattle·{name}\\.proofs"), root)
+        kept = laws(name, cited(texts, f"Rattle\\.{name}\\.proofs"), root)
         cut(source, target, kept)
         texts += kept.values()
     write_list(folder, {top, *under}, root)

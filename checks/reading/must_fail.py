@@ -11,6 +11,7 @@ class MustFail:
     promise: str  # a public function, or nothing
     theorem: str = ""  # or a law whose statement is changed
     places: list = field(default_factory=list)  # each a file of the crate and the text in it that is changed
+    changes: list = field(default_factory=list)  # each such text and the one in its place
 
 
 def edits(crate):
@@ -39,4 +40,33 @@ def in_file(path):
                 fresh = False
         elif word == "old:":
             found[-1].places.append((source, rest))
+        elif word == "new:":
+            found[-1].changes.append((found[-1].places[-1][1], rest))
     return found
+
+
+def pairs(path):
+    """What an edit's file changes: (a file of the crate, the old text, the new text), as the kit reads it."""
+    found, file, old = [], "", None
+    for line in path.read_text().split("\n"):
+        if line.startswith("file: "):
+            file = line.removeprefix("file: ").strip()
+        elif line.startswith("old: "):
+            old = line.removeprefix("old: ")
+        elif line.startswith("new:") and old is not None:
+            found.append((file, old, line.removeprefix("new:").removeprefix(" ")))
+            old = None
+    return found
+
+
+def applied(crate, path):
+    """The texts of the files that an edit's file changes, with its changes made one after another, and what is wrong, if anything is."""
+    after, changes = {}, pairs(path)
+    for file, old, new in changes:
+        if file not in after:
+            after[file] = (crate / file).read_text() if (crate / file).is_file() else ""
+        count = after[file].count(old)
+        if count != 1:
+            return {}, f"changes a text that stands in {file} {count} times, and not once: {old}"
+        after[file] = after[file].replace(old, new)
+    return after, "" if changes else "changes nothing"

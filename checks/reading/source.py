@@ -2,6 +2,8 @@
 import re
 from dataclasses import dataclass, field
 
+from . import antt
+
 
 @dataclass
 class Function:
@@ -144,9 +146,8 @@ class Crate:
     def read_items(self, reading, file, path, reached):
         exported = False
         while not reading.over():
-            attribute = reading.take(r"#\[([^\]]*)\]")
-            if attribute:
-                exported |= "no_mangle" in attribute.group(1)
+            if reading.take(r"#!?(?=\[)"):
+                exported |= "no_mangle" in reading.block("[", "]").words()
                 continue
             show = reading.take(r"pub use ([^;]*);")
             if show:
@@ -185,10 +186,10 @@ def read_function(reading, file, path):
     parameters = parted(reading.block("(", ")").words())
     answer = ""
     if reading.take("->"):
-        answer = reading.take(r"[^{]*?(?=\s(?:requires|ensures|decreases|measure)\b|\s*\{)").group(0).strip()
+        answer = reading.take(r"[^{]*?(?=\s(?:ghost|requires|ensures|decreases|measure)\b|\s*\{)").group(0).strip()
     found = Function((*path, name), False, parameters, answer, file=file)
     while True:
-        clause = reading.take(r"(requires|ensures|decreases|measure)\b[^{]*")
+        clause = reading.take(r"(ghost|requires|ensures|decreases|measure)\b[^{]*")
         if not clause:
             break
         said = reading.block("{", "}").words()
@@ -208,12 +209,14 @@ def lost(crate):
     return Crate(crate).lost
 
 
-def definitions(crate):
-    """The names that the crate's code takes from definitions of specs/, its own and others'."""
+def definitions(crate, listed):
+    """The names that the crate's code takes from definitions of specs/, its own and those of other crates that are listed."""
     names = set()
     for path in (crate / "src").glob("**/*.rt"):
-        for taken in re.findall(r"^ghost use Rattle·\w+(?:·specs)?\.specs\.[^{]*\{([^}]*)\}", path.read_text(), re.M):
-            names |= set(taken.replace(",", " ").split())
+        for here, there in antt.brought(path.read_text()).items():
+            told = re.match(r"Rattle\.(\w+)\.specs\.", there)
+            if told and told.group(1) in listed:
+                names.add(here)
     return names
 
 

@@ -13,7 +13,8 @@ OneOutcome {K} {S} {A} {R} {E} Post left =
     (κs : K) (a : A κs) (x y : R κs) (e f : E κs) → Post κs a x e → Post κs a y f → (x ≡ y) × (left κs e ≡ left κs f)
 """,
 }
-LONG = r"\(κs : _\) \(a : _\) \(r r′ : _\) \(e e′ : _\) → {post} κs a r e → {post} κs a r′ e′ → (.*)"
+CONTENT, AGAIN = r"^e((?:\.\d+)+\.now)$", r"e'\1"  # what a parameter holds at exit, for one answer and for the other
+LONG = r"\(κs : _\) \(a : _\) \(r r' : _\) \(e e' : _\) → {post} κs a r e → {post} κs a r' e' → (.*)"
 
 
 def flat(text):
@@ -23,13 +24,13 @@ def flat(text):
 def wanted(function):
     """What a function's theorem must say: of the answer, and of each parameter that was lent to be written, whatever it answers."""
     if "&" in function.answer:
-        found = ["now r ≡ now r′", "ptr r ≡ ptr r′"]
+        found = ["r.now ≡ r'.now", "r.ref_ptr ≡ r'.ref_ptr"]
     else:
-        found = ["r ≡ r′"] if function.answer else []
+        found = ["r ≡ r'"] if function.answer else []
     for at, text in enumerate(function.parameters):
         if re.search(r"&\s*('\w+\s+)?mut\b", text):
-            place = " ".join([".1"] * at + [".0"])
-            found.append(f"now (e {place}) ≡ now (e′ {place})")
+            place = ".1" * at + ".0.now"
+            found.append(f"e{place} ≡ e'{place}")
     return found
 
 
@@ -57,11 +58,11 @@ def said(stated, post):
     if long:
         return divided(long.group(1), "×")
     if stated == f"OneAnswer {post}":
-        return ["r ≡ r′"]
+        return ["r ≡ r'"]
     short = re.fullmatch(rf"OneOutcome (?:\{{S = [^{{}}]*\}} )?{re.escape(post)} \(λ (?:κs|_) e\. (.*)\)", stated)
     if short:
         left = divided(short.group(1), ",")
-        return ["r ≡ r′"] + [f"{one} ≡ {one.replace('(e ', '(e′ ')}" for one in left]
+        return ["r ≡ r'"] + [f"{one} ≡ {re.sub(CONTENT, AGAIN, one)}" for one in left]
     return None
 
 
@@ -74,7 +75,7 @@ def statement(text, name):
 def defined(crates, crate, text, word):
     """The word is defined as it must be, in this file or in the one that it is brought from."""
     for folder in sorted(path.name for path in crates.iterdir()):
-        told = re.search(rf"^use Rattle·{folder}(?:·proofs\.proofs|\.proofs)\.([\w.]+)\.\{{[^}}]*\b{word}\b[^}}]*\}}$", text, re.M)
+        told = re.search(rf"^use Rattle\.{folder}\.proofs\.([\w.]+)\.\{{[^}}]*\b{word}\b[^}}]*\}}$", text, re.M)
         if told:
             text = (crates / folder / "proofs" / f"{told.group(1).replace('.', '/')}.antt").read_text()
     block = re.search(rf"^abbrev pub {word} :.*?(?=\n\n|\Z)", text, re.M | re.S)
@@ -88,12 +89,12 @@ def missing(crate, function):
         return "proofs/Unique.antt is not there"
     if not re.search(r"^pub mod Unique$", (crate / "proofs/Lib.antt").read_text(), re.M):
         return "proofs/Lib.antt does not name Unique"
-    text, name = page.read_text(), function.path[-1].replace("_", "-") + "-unique"
+    text, name = page.read_text(), function.path[-1] + "_unique"
     stated = statement(text, name)
     if stated is None:
         return f"{name} is not there"
     path = ".".join(function.path)
-    alias = re.search(rf"^use Rattle·{crate.name}·proofs\.proofs\.{re.escape(path)}\.Reads as (\S+)$", text, re.M)
+    alias = re.search(rf"^use Rattle\.{crate.name}\.proofs\.{re.escape(path)}\.Reads as (\S+)$", text, re.M)
     if not alias or len(re.findall(rf" as {re.escape(alias.group(1))}$", text, re.M)) != 1:
         return f"{name} does not speak of what {path} promises"
     parts = said(stated, f"{alias.group(1)}.Post")

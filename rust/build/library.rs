@@ -7,9 +7,14 @@ use std::time::SystemTime;
 pub const ARCHIVE: &str = "libtrnadulek.a";
 pub const FOLDER_VARIABLE: &str = "TRNADULEK_LIB";
 
-/// Where `rt staticlib trnadulek` puts the library.
+/// The library's crate, where `rt lib` makes it.
+pub fn crate_folder(repository: &Path) -> PathBuf {
+    repository.join("crates").join("trnadulek")
+}
+
+/// Where `rt lib` puts the library.
 pub fn default_folder(repository: &Path) -> PathBuf {
-    repository.join("target").join("staticlib")
+    crate_folder(repository).join("out")
 }
 
 pub fn holds_archive(folder: &Path) -> bool {

@@ -46,9 +46,9 @@
 //!
 //! The build links `libtrnadulek.a` from the folder that the environment variable `TRNADULEK_LIB`
 //! names. A relative name is taken from where cargo is called, and if there is no library there from
-//! the repository. Without the variable the folder is the repository's `target/staticlib`, where `rt
-//! staticlib trnadulek` makes the library; one that is older than the proved sources is built with,
-//! and reported by a warning.
+//! the repository. Without the variable the folder is the repository's `crates/trnadulek/out`, where
+//! `rt lib`, called in `crates/trnadulek`, makes the library; one that is older than the proved
+//! sources is built with, and reported by a warning.
 
 #![no_std]
 #![warn(missing_docs)]

@@ -7,7 +7,7 @@ use std::process::{Command, Output};
 use std::thread::sleep;
 use std::time::Duration;
 
-const WARNING: &str = "rt staticlib trnadulek makes it anew";
+const WARNING: &str = "rt lib in crates/trnadulek makes it anew";
 
 /// A repository with a copy of this crate in `rust`, a proved source and a host.
 struct Repository(PathBuf);
@@ -105,7 +105,7 @@ fn said(output: &Output) -> String {
 #[test]
 fn a_library_that_is_older_than_the_proved_sources_is_reported() {
     let repository = Repository::new("older");
-    repository.write_later("target/staticlib/libtrnadulek.a", "");
+    repository.write_later("crates/trnadulek/out/libtrnadulek.a", "");
     assert!(!repository.warns(None));
     for source in [
         "crates.txt",
@@ -114,8 +114,8 @@ fn a_library_that_is_older_than_the_proved_sources_is_reported() {
     ] {
         repository.write_later(source, "changed\n");
         assert!(repository.warns(None), "{source}");
-        assert!(repository.warns(Some("../target/staticlib")), "{source}");
-        repository.write_later("target/staticlib/libtrnadulek.a", "");
+        assert!(repository.warns(Some("../crates/trnadulek/out")), "{source}");
+        repository.write_later("crates/trnadulek/out/libtrnadulek.a", "");
         assert!(!repository.warns(None), "{source}");
     }
 }

@@ -16,18 +16,15 @@ def ready(folder, root):
     if not (folder / "crates").exists() or not judging.same(folder / "crates", root / "crates"):
         shutil.rmtree(folder, ignore_errors=True)
         copy(root, folder)
-    status, text, _ = prover.run(["rt", "check", "trnadulek"], folder)
+    status, text, _ = prover.check(folder, "trnadulek")
     if status != 0:
         raise SystemExit(f"sweep: the crates are not proved as they stand: {text.strip().split(chr(10))[-1]}")
 
 
 def copy(root, folder):
     folder.mkdir(parents=True, exist_ok=True)
-    shutil.copytree(root / "crates", folder / "crates")
+    shutil.copytree(root / "crates", folder / "crates", ignore=shutil.ignore_patterns("out"))
     shutil.copy(root / "crates.txt", folder)
-    if (root / "target/rlib").exists():
-        for part in ("rlib", "stamp"):
-            shutil.copytree(root / "target" / part, folder / "target" / part)
 
 
 def judge(edit, proved):

@@ -4,9 +4,10 @@ import re
 from .edits import Edit
 from .numbers import NUMBER, another, off_by_one
 
-TURNED = {"ltb": "leb", "leb": "ltb", "<": "≤", "≤": "<"}
-OTHER = {"true": "false", "false": "true", "further": "back", "back": "further", "highOf": "lowOf", "lowOf": "highOf"}
+TURNED = {"ltb": "leb", "leb": "ltb", "nat_lt": "nat_le", "nat_le": "nat_lt", "<": "≤", "≤": "<"}
+OTHER = {"true": "false", "false": "true", "further": "back", "back": "further", "high_of": "low_of", "low_of": "high_of"}
 ATOM = r"[^\s(){},;∷]+"
+WORD = r"(?<![^\s(){},;∷])[^\s(){},;∷.]+"  # of an atom what stands before its fields
 
 
 def without_comments(text):
@@ -16,7 +17,7 @@ def without_comments(text):
 def variants(text):
     """The constructors that a file takes from each enum: {constructor: the enum's constructors}."""
     found = {}
-    for names in re.findall(r"^use [^\n]*the-variants\.\{([^}]*)\}", text, re.M):
+    for names in re.findall(r"^use [^\n]*TheVariants\.\{([^}]*)\}", text, re.M):
         together = names.replace(",", " ").split()
         found.update({name: together for name in together})
     return found
@@ -58,7 +59,7 @@ class Page:
         signatures = {}
         blocks = [(found.start(), found.group(0)) for found in re.finditer(r"^\S[^\n]*\n(?:(?:[ \t][^\n]*)?\n)*", self.text + "\n", re.M)]
         for at, block in blocks:
-            declared = re.match(r"(?:abbrev |unfoldable )?(?:pub )?(\S+) :(.*)", block, re.S)
+            declared = re.match(r"(?:abbrev |unfoldable |opaque )?(?:pub )?(\S+) :(.*)", block, re.S)
             record = re.match(r"pub record (\S+)", block)
             clause = re.match(r"(\S+)((?: (?:\([^=]*?\)|[^\s=]+))*?)\s*=\s", block)
             if record:
@@ -90,7 +91,7 @@ class Page:
                 yield self.edit(item, "number off by one", token.start(), token.group(0), new)
             for new in another(token.group(0)):
                 yield self.edit(item, "another constant", token.start(), token.group(0), new)
-        for token in re.compile(ATOM).finditer(text, clause.start, clause.end):
+        for token in re.compile(WORD).finditer(text, clause.start, clause.end):
             word, at = token.group(0), token.start()
             if word in TURNED:
                 yield self.edit(item, "comparison turned", at, word, TURNED[word])
@@ -104,7 +105,7 @@ class Page:
                 for other, type_ in clause.types.items():
                     if other != word and type_ == clause.types[word]:
                         yield self.edit(item, "another operand", at, word, other)
-            elif word == "flagsOf":
+            elif word == "flags_of":
                 at = token.end()
                 for _ in range(4):
                     at = re.compile(r"\s*").match(text, at).end()

@@ -13,7 +13,7 @@ class Prepared:
 
     def __init__(self, folder, crate, root):
         self.folder, self.crate, self.root = folder / crate, crate, root
-        self.built = self.folder / "target/inc" / crate
+        self.built = self.folder / "crates" / crate / "out/incremental"
         self.kept = self.folder / "kept"
 
     def fresh(self):
@@ -42,7 +42,7 @@ class Prepared:
         shutil.copytree(self.built, self.kept, copy_function=os.link)
 
     def check(self):
-        return prover.judge(*prover.run(["rt", "dev", self.crate], self.folder))
+        return prover.judge(*prover.check(self.folder, self.crate), self.crate)
 
     def judge(self, edit):
         shutil.rmtree(self.built, ignore_errors=True)
@@ -53,7 +53,7 @@ class Prepared:
 
 def same(one, two):
     """Two folders hold the same files with the same texts."""
-    compared = filecmp.dircmp(one, two)
+    compared = filecmp.dircmp(one, two, ignore=["out"])
     if compared.left_only or compared.right_only:
         return False
     if filecmp.cmpfiles(one, two, compared.common_files, shallow=False)[0] != compared.common_files:
@@ -67,4 +67,4 @@ def from_nothing(edit, root, top, whole=None):
         folder = pathlib.Path(name)
         crates.copy_under(folder, top, root, whole)
         with edit.made(folder / "crates"):
-            return prover.judge(*prover.run(["rt", "check", top], folder))
+            return prover.judge(*prover.verdict(folder, top), top)

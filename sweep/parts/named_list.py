@@ -5,9 +5,9 @@ STEP = "machine/specs/Step.antt"
 RUN = "machine/src/run.rt"
 MODES = "machine/src/modes.rt"
 REQUESTS = "machine/specs/Interrupts.antt"
-LOW = "(lowBelow (s .sp) (s .pc) ∷ [])"
+LOW = "(low_below s.sp s.pc ∷ [])"
 HALTS = "machine/specs/Execute.antt"
-RETURNED = "withPc own (withIme On (withMode Running s))"
+RETURNED = "with_pc own (with_ime On (with_mode Running s))"
 READ = "listing/src/read.rt"
 FORMS = "listing/src/forms.rt"
 LINES = "listing/src/lines.rt"
@@ -42,45 +42,45 @@ EASY = [
         "in Repeat PC is moved back after the instruction",
         (
             STEP,
-            "unfoldable pub instructionAct :",
-            "unfoldable pub movedBack : Mode → Act → Act\n"
-            "movedBack Running a = a\n"
-            "movedBack Repeat a = record { cycles = a .cycles; cpu = withPc (back 1 (a .cpu .pc)) (a .cpu); stores = a .stores }\n"
-            "movedBack Halted a = a\n"
-            "movedBack Stopped a = a\n\n"
-            "unfoldable pub instructionAct :",
+            "unfoldable pub instruction_act :",
+            "unfoldable pub moved_back : Mode → Act → Act\n"
+            "moved_back Running a = a\n"
+            "moved_back Repeat a = record { cycles = a.cycles; cpu = with_pc (back 1 a.cpu.pc) a.cpu; stores = a.stores }\n"
+            "moved_back Halted a = a\n"
+            "moved_back Stopped a = a\n\n"
+            "unfoldable pub instruction_act :",
         ),
         (STEP, "{further}", "{further, back}"),
         (
             STEP,
-            "instructionAct s m =\n"
-            "    endOf (shapeOf (nextInsn s m) .cycles) (s .ime) (execOf (s .pc) (nextInsn s m) (readyOf (nextAfter s m) s) m)",
-            "instructionAct s m = movedBack (s .mode) (endOf (shapeOf (nextInsn s m) .cycles) (s .ime) (execOf (s .pc) (nextInsn s m)"
-            " (readyOf (further (shapeOf (nextInsn s m) .bytes) (s .pc)) s) m))",
+            "instruction_act s m =\n"
+            "    end_of (shape_of (next_insn s m)).cycles s.ime (exec_of s.pc (next_insn s m) (ready_of (next_after s m) s) m)",
+            "instruction_act s m = moved_back s.mode (end_of (shape_of (next_insn s m)).cycles s.ime (exec_of s.pc (next_insn s m)"
+            " (ready_of (further (shape_of (next_insn s m)).bytes s.pc) s) m))",
         ),
     ),
-    Change("the vector is chosen before the push", (REQUESTS, "chosenOf (made (high ∷ []) m)", "chosenOf m")),
+    Change("the vector is chosen before the push", (REQUESTS, "chosen_of (made (high ∷ []) m)", "chosen_of m")),
     Change(
         "IF is cleared before the high byte is stored",
-        (REQUESTS, "chosenOf (made (high ∷ []) m)", "chosenOf m"),
-        (REQUESTS, f"(high ∷ (chosen .stores ++ {LOW}))", "(chosen .stores ++ (high ∷ lowBelow (s .sp) (s .pc) ∷ []))"),
+        (REQUESTS, "chosen_of (made (high ∷ []) m)", "chosen_of m"),
+        (REQUESTS, f"(high ∷ (chosen.stores ++ {LOW}))", "(chosen.stores ++ (high ∷ low_below s.sp s.pc ∷ []))"),
     ),
     Change(
         "IF is cleared after the low byte is stored",
-        (REQUESTS, f"(high ∷ (chosen .stores ++ {LOW}))", "(high ∷ (lowBelow (s .sp) (s .pc) ∷ chosen .stores))"),
+        (REQUESTS, f"(high ∷ (chosen.stores ++ {LOW}))", "(high ∷ (low_below s.sp s.pc ∷ chosen.stores))"),
     ),
-    Change("PC is $40 where nothing is pending", (REQUESTS, "chosenIf false k m = storeless 0", "chosenIf false k m = storeless 0x40")),
+    Change("PC is $40 where nothing is pending", (REQUESTS, "chosen_if false k m = storeless 0", "chosen_if false k m = storeless 0x40")),
     Change("a bit is cleared where nothing is pending", ("machine/src/interrupts.rt", "if p == 0 {", "if p == 32 {")),
     Change(
         "IME is left On by a cancelled dispatch",
-        (REQUESTS, "-- Assumes nothing.", "use lib.ListN.{getD}"),
-        (REQUESTS, "the-variants.{Off}", "the-variants.{Off, On}"),
-        (REQUESTS, "(withIme Off (withMode Running s))", "(withIme (getD (On ∷ []) to Off) (withMode Running s))"),
+        (REQUESTS, "++◌, eqb}", "++◌, eqb, get_or}"),
+        (REQUESTS, "TheVariants.{Off}", "TheVariants.{Off, On}"),
+        (REQUESTS, "(with_ime Off (with_mode Running s))", "(with_ime (get_or (On ∷ []) to Off) (with_mode Running s))"),
     ),
-    Change("HALT under Arming halts", (HALTS, f"Arming own s = {RETURNED}", "Arming own s = withMode Halted s")),
+    Change("HALT under Arming halts", (HALTS, f"Arming own s = {RETURNED}", "Arming own s = with_mode Halted s")),
     Change("HALT under Arming goes on after itself", (MODES, "self.ready(own, Ime::On)", "self.ready(self.pc, Ime::On)")),
     Change("HALT under Arming leaves it so", (MODES, "self.ready(own, Ime::On)", "self.ready(own, Ime::Arming)")),
-    Change("HALT's address is counted back", (HALTS, RETURNED, RETURNED.replace("own", "(back 1 (s .pc))"))),
+    Change("HALT's address is counted back", (HALTS, RETURNED, RETURNED.replace("own", "(back 1 s.pc)"))),
 ]
 
 INSTRUCTIONS = [
@@ -119,23 +119,23 @@ INSTRUCTIONS = [
         "PUSH stores the low byte first",
         (
             "machine/specs/Stack.antt",
-            "(highBelow (s .sp) w ∷ lowBelow (s .sp) w ∷ [])",
-            "(lowBelow (s .sp) w ∷ highBelow (s .sp) w ∷ [])",
+            "(high_below s.sp w ∷ low_below s.sp w ∷ [])",
+            "(low_below s.sp w ∷ high_below s.sp w ∷ [])",
         ),
     ),
     Change(
         "LD [n16],SP at $FFFF does not wrap",
-        ("machine/specs/Memory.antt", "use Prim.Native.Nat.{ℕ}", "use Prim.Native.Nat.{ℕ, _+_}"),
-        ("machine/specs/Memory.antt", "store (further 1 at) (highOf w)", "store (at + 1) (highOf w)"),
+        ("machine/specs/Memory.antt", "Prelude.{ℕ, ", "Prelude.{ℕ, ◌+◌, "),
+        ("machine/specs/Memory.antt", "store (further 1 at) (high_of w)", "store (at + 1) (high_of w)"),
     ),
     Change(
         "a refused step moves PC",
-        (STEP, "(λ n. refusing n s m)", "(λ n. refusing n (withPc (nextRest s) s) m)"),
+        (STEP, "(λ n. refusing n s m)", "(λ n. refusing n (with_pc (next_rest s) s) m)"),
     ),
     Change(
         "refusal 4 comes before refusal 3",
-        (STEP, "    3 when isStopped (s .mode)\n    ∷ 4 when (", "    4 when ("),
-        (STEP, "isUndefined (nextInsn s m))\n    ∷ []", "isUndefined (nextInsn s m))\n    ∷ 3 when isStopped (s .mode)\n    ∷ []"),
+        (STEP, "    3 when is_stopped s.mode\n    ∷ 4 when (", "    4 when ("),
+        (STEP, "is_undefined (next_insn s m))\n    ∷ []", "is_undefined (next_insn s m))\n    ∷ 3 when is_stopped s.mode\n    ∷ []"),
     ),
     Change(
         "the numbers of refusals 3 and 4 are exchanged",
@@ -148,7 +148,7 @@ LISTING = [
     Change("an instruction that the end cuts is listed whole", (READ, "(left < size)", "(left < 1)")),
     Change(
         "the byte after a $10 that is data is skipped",
-        (LINE_OF, "(length (lineOf e a (b ∷ bytes) .bytes) - 1) bytes", "(sizeIn (b ∷ bytes) - 1) bytes"),
+        (LINE_OF, "(length (line_of e a (b ∷ bytes)).bytes - 1) bytes", "(size_in (b ∷ bytes) - 1) bytes"),
     ),
     Change("a $10 before any byte is STOP", (READ, "(n8 != 0)", "(n8 != n8)")),
     Change(
@@ -161,44 +161,44 @@ LISTING = [
     Change("digits are in lower case, by the definition", ("digits/specs/Numerals.antt", '"0123456789ABCDEF"', '"0123456789abcdef"')),
     Change(
         "the address of a line does not wrap",
-        (LINE_OF, "use Prim.Native.Nat.{ℕ, zero, suc, _-_}", "use Prim.Native.Nat.{ℕ, zero, suc, _-_, min}"),
-        (LINE_OF, "= linesFrom e (further 1 a) few bytes", "= linesFrom e (min (suc a) 0xFFFF) few bytes"),
-        (LINE_OF, "linesFrom e (further 1 a) (length", "linesFrom e (min (suc a) 0xFFFF) (length"),
+        (LINE_OF, "Prelude.{ℕ, zero, suc, ◌-◌, ", "Prelude.{ℕ, zero, suc, ◌-◌, min, "),
+        (LINE_OF, "= lines_from e (further 1 a) few bytes", "= lines_from e (min (suc a) 0xFFFF) few bytes"),
+        (LINE_OF, "lines_from e (further 1 a) (length", "lines_from e (min (suc a) 0xFFFF) (length"),
     ),
     Change(
         "one byte too few is asked of the output",
-        (LISTED, "use Prim.Native.Nat.{ℕ}", "use Prim.Native.Nat.{ℕ, suc}"),
+        (LISTED, "Prelude.{ℕ, ", "Prelude.{ℕ, suc, "),
         (LISTED, "10 when ltb (length out) (length text)", "10 when ltb (suc (length out)) (length text)"),
     ),
     Change("an output just long enough is refused", (LINES, "if room - length < wide {", "if room - length <= wide {")),
     Change(
         "the output is written before 10 is known",
-        (LISTED, "{length, drop}", "{length, drop, take}"),
+        (LISTED, "length, drop}", "length, drop, take}"),
         (LISTED, "length = 0 }; out = out }", "length = 0 }; out = take (length out) text }"),
     ),
     Change("a text that is too long is written as far as it goes", (LINES, "return Measured::TooLong;", "return Measured::Fits(length);")),
     Change("the misprint of the reference, LD [HL],A for $22, is followed", (FORMS, "Edition::New => step(p, end, out)", "Edition::New => step(p % 2 * p, end, out)")),
     Change("a destination A is left out", (FORMS, "a A,z...", "a z.....")),
-    Change("a byte needs at most 18 characters", (LINE_OF, "mostListed = 19", "mostListed = 18")),
+    Change("a byte needs at most 18 characters", (LINE_OF, "most_listed = 19", "most_listed = 18")),
 ]
 
 EDITIONS = [
     Change("[HL] for [HLI]: two instructions, one spelling", (SPELLED, 'pointer.Hli = Named "[HLI]"', 'pointer.Hli = Named "[HL]"')),
     Change(
         "STOP for any second byte",
-        (LINE_OF, "not (eqb (byteIn 1 bytes) 0x00)", "not (eqb (byteIn 1 bytes) (byteIn 1 bytes))"),
+        (LINE_OF, "not (eqb (byte_in 1 bytes) 0x00)", "not (eqb (byte_in 1 bytes) (byte_in 1 bytes))"),
     ),
-    Change("LDH spelled as LD", (SPELLED, 'two "LDH" (Of atHigh n) (Named "A")', 'two "LD" (Of atHigh n) (Named "A")')),
-    Change("the vector of RST in one digit", (SPELLED, "constantText next vec v = hex 2 v", "constantText next vec v = hex 1 v")),
-    Change("two digits for n16", (SPELLED, "constantText next n16 w = hex 4 w", "constantText next n16 w = hex 2 w")),
+    Change("LDH spelled as LD", (SPELLED, 'two "LDH" (Of at_high n) (Named "A")', 'two "LD" (Of at_high n) (Named "A")')),
+    Change("the vector of RST in one digit", (SPELLED, "constant_text next vec v = hex 2 v", "constant_text next vec v = hex 1 v")),
+    Change("two digits for n16", (SPELLED, "constant_text next n16 w = hex 4 w", "constant_text next n16 w = hex 2 w")),
     Change(
         "10 before 11",
-        (LISTED, f"{ELEVEN} ∷ roomRefusals text out", f"10 when ltb (length out) (length text) ∷ {ELEVEN} ∷ []"),
+        (LISTED, f"{ELEVEN} ∷ room_refusals text out", f"10 when ltb (length out) (length text) ∷ {ELEVEN} ∷ []"),
     ),
     Change(
         "edition 0 taken as 1",
-        (LISTED, "{eqb, ltb}", "{eqb, leb, ltb}"),
-        (LISTED, "editionIf (eqb number 1)", "editionIf (leb number 1)"),
+        (LISTED, "eqb, ltb, ", "eqb, leb, ltb, "),
+        (LISTED, "edition_if (eqb number 1)", "edition_if (leb number 1)"),
         (LISTED, ELEVEN, ELEVEN.replace("eqb edition 1", "leb edition 1")),
     ),
     Change("edition 0 taken", (LIST, "(edition != 1) &", "(edition > 1) &")),
@@ -215,8 +215,8 @@ EDITIONS = [
         "the old spelling in the new edition",
         (
             SPELLED,
-            "spellingIn New op n w = spellingOf (decodeOf op n w)",
-            "spellingIn New op n w = changedBy (oldRows n) op (spellingOf (decodeOf op n w))",
+            "spelling_in New op n w = spelling_of (decode_of op n w)",
+            "spelling_in New op n w = changed_by (old_rows n) op (spelling_of (decode_of op n w))",
         ),
     ),
 ]
@@ -245,13 +245,13 @@ ASSEMBLER = [
     Change("a vector that is no multiple of 8 is taken", (RANGES, "n % 8 == 0", "n % 4 == 0")),
     Change(
         "14 comes before 13",
-        (VERDICTS, "verdictBy a row slot Deep = Fault 13", "verdictBy a row slot Deep = Fault 14"),
-        (VERDICTS, "verdictBy a row slot Large = Fault 14", "verdictBy a row slot Large = Fault 13"),
+        (VERDICTS, "verdict_by a row slot Deep = Fault 13", "verdict_by a row slot Deep = Fault 14"),
+        (VERDICTS, "verdict_by a row slot Large = Fault 14", "verdict_by a row slot Large = Fault 13"),
     ),
-    Change("a line of no form is 13", (VERDICTS, "verdictBy a row slot NoForm = Fault 12", "verdictBy a row slot NoForm = Fault 13")),
+    Change("a line of no form is 13", (VERDICTS, "verdict_by a row slot NoForm = Fault 12", "verdict_by a row slot NoForm = Fault 13")),
     Change(
         "a later line's fault comes first",
-        (OUTCOMES, "lineOutcome line room (Fault n) rest = Refused n line", "lineOutcome line room (Fault n) rest = rest 0"),
+        (OUTCOMES, "line_outcome line room (Fault n) rest = Refused n line", "line_outcome line room (Fault n) rest = rest 0"),
     ),
     Change("lines are numbered from 0", (TEXTS, "Measured::AtFault(code, above + 1)", "Measured::AtFault(code, above + 0)")),
     Change(
@@ -260,7 +260,7 @@ ASSEMBLER = [
     ),
     Change(
         "an output one byte too short is taken",
-        (OUTCOMES, "outcomeIf (ltb room (length bytes)) line", "outcomeIf (ltb (room + 1) (length bytes)) line"),
+        (OUTCOMES, "outcome_if (ltb room (length bytes)) line", "outcome_if (ltb (room + 1) (length bytes)) line"),
     ),
     Change("a line without its newline is taken", (TEXTS, "if end < text.len() {", "if end <= text.len() {")),
     Change("a line's address stays the first", (OUTCOMES, "rest (further k a) (line + 1)", "rest a (line + 1)")),
@@ -269,11 +269,11 @@ ASSEMBLER = [
     Change("[HLI] is taken for [HLD]", ("spellings/src/rows.rt", "[HLI][HLD]NZ", "[HLD][HLI]NZ")),
     Change("a bracket does not begin a constant", ("spellings/src/places.rt", "(c == b'(')", "(c == b')')")),
     Change("a bracket does not end a constant", ("spellings/specs/Outline.antt", "eqb c 44 || eqb c 93", "eqb c 44 || eqb c 91")),
-    Change("a bit's number is four rows apart", (CODED, "rowBytes (row + 8 * n)", "rowBytes (row + 4 * n)")),
+    Change("a bit's number is four rows apart", (CODED, "row_bytes (row + 8 * n)", "row_bytes (row + 4 * n)")),
     Change("the prefix is left out", (CODED, "(0xCB ∷ (row - 256) ∷ [])", "((row - 256) ∷ [])")),
     Change("STOP has one byte", (CODED, "(0x10 ∷ 0x00 ∷ [])", "(0x10 ∷ [])")),
-    Change("a vector is a bit's number", ("spellings/specs/Rows.antt", "slotOf vec = Vec", "slotOf vec = U3")),
-    Change("the high byte comes first", (CODED, "(lowOf n ∷ highOf n ∷ [])", "(highOf n ∷ lowOf n ∷ [])")),
+    Change("a vector is a bit's number", ("spellings/specs/Rows.antt", "slot_of vec = Vec", "slot_of vec = U3")),
+    Change("the high byte comes first", (CODED, "(low_of n ∷ high_of n ∷ [])", "(high_of n ∷ low_of n ∷ [])")),
 ]
 
 CHEATS = [
@@ -294,7 +294,7 @@ CHEATS = [
     Change("memory is never touched", ("machine/src/memory.rt", "mem[at as usize] = v;", "mem[at as usize] = mem[at as usize];")),
     Change(
         "memory is never touched, by the definition",
-        ("machine/specs/Memory.antt", "stored m at v = set m at v", "stored m at v = set m at (byteAt m at)"),
+        ("machine/specs/Memory.antt", "stored m at v = set m at v", "stored m at v = set m at (byte_at m at)"),
     ),
     Change("a step does the work of a whole run", (RUN, "run_from(cpu, mem, 1)", "run_from(cpu, mem, 1048576)")),
     Change("the cycles of a step are invented", (RUN, "cycles: (r.spent % 256) as u8,", "cycles: (r.steps % 256) as u8,")),
@@ -322,7 +322,7 @@ CHEATS = [
     Change("an assembly always answers that it is done", ("assembler/src/lib.rt", "            code,\n            line,", "            code: 0,\n            line: 0,")),
     Change("two rows of the listing's table are exchanged", (FORMS, "DI......EI......", "EI......DI......")),
     Change("a listing has DB for everything", (READ, "(form == kinds::DATA)", "(form == form)")),
-    Change("a listing has DB for everything, by the definition", (LINE_OF, "lineIf (isData bytes) e a bytes", "lineIf true e a bytes")),
+    Change("a listing has DB for everything, by the definition", (LINE_OF, "line_if (is_data bytes) e a bytes", "line_if true e a bytes")),
 ]
 
 GROUPS = {

@@ -72,7 +72,7 @@ pub record Examples : Type 0 where
   pub wraps : Answers "18446744073709551617" Large
   pub twenty_zeros : Answers "00000000000000000007" (Above 7)
   pub most : Answers "65535" (Above 65535)
-  pub one_more_lem : Answers "65536" Large
+  pub one_more : Answers "65536" Large
   pub most_hexadecimal : Answers "$FFFF" (Above 65535)
   pub more_hexadecimal : Answers "$10000" Large
   pub back_again : Answers "65535+65535-65535" (Above 65535)

@@ -6,8 +6,8 @@ use Rattle.arith.proofs.Unique.{same, OneAnswer, OneOutcome}
 use Rattle.machine.proofs.Unique.{gives_one}
 use Rattle.saved.proofs.codes.ime_code.Reads as ime-code
 use Rattle.saved.proofs.codes.mode_code.Reads as mode-code
-use Rattle.saved.proofs.block.bytes_of.Reads as bytes_of
-use Rattle.saved.proofs.block.has_codes.Reads as has_codes_lem
+use Rattle.saved.proofs.block.bytes_of.Reads as bytes-of
+use Rattle.saved.proofs.block.has_codes.Reads as has-codes
 use Rattle.saved.proofs.block.state_of.Reads as state-of
 use Rattle.saved.proofs.load_head.Reads as load-head
 use Rattle.saved.proofs.check_image.Reads as check-image
@@ -21,10 +21,10 @@ ime_code_unique _ _ _ _ _ _ = same
 pub mode_code_unique : OneAnswer mode-code.Post
 mode_code_unique _ _ _ _ _ _ = same
 
-pub bytes_of_unique : OneAnswer bytes_of.Post
+pub bytes_of_unique : OneAnswer bytes-of.Post
 bytes_of_unique _ _ _ _ _ _ = same
 
-pub has_codes_unique : OneAnswer has_codes_lem.Post
+pub has_codes_unique : OneAnswer has-codes.Post
 has_codes_unique _ _ _ _ _ _ = same
 
 pub state_of_unique : OneAnswer state-of.Post

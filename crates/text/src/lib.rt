@@ -5,7 +5,7 @@ pub mod answer;
 mod writing;
 
 // A text that grows: its bytes, and how many there are.
-#[derive(Drop)]
+#[derive(Clone, Copy)]
 pub struct Text {
     pub bytes: [u8; 160],
     pub len: usize,
