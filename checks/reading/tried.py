@@ -11,7 +11,6 @@ import tempfile
 
 from . import crates, must_fail, prover
 
-CONDITION = r"(eq|ne|lt|le|gt|ge)?\d+|eq|ne|lt|le|gt|ge"  # in the name of a place: what a condition compares with
 LANES = int(os.environ.get("RT_JOBS") or min(4, os.cpu_count() or 1))  # crates that are tried side by side
 
 
@@ -59,17 +58,17 @@ def copy(root, name, folder):
 
 
 def turned(was, now):
-    """The part of a place's name in which two differ, where it is what one condition compares with; nothing where they differ otherwise."""
+    """The part, with the one before it, in which two names of a place differ, where it is one alone; nothing where they differ otherwise."""
     one, two = was.split("-"), now.split("-")
     parts = [at for at in range(min(len(one), len(two))) if one[at] != two[at]]
-    if len(one) == len(two) and len(parts) == 1 and parts[0] > 0 and all(re.fullmatch(CONDITION, name[parts[0]]) for name in (one, two)):
+    if len(one) == len(two) and len(parts) == 1 and parts[0] > 0:
         return tuple("-".join(name[parts[0] - 1 : parts[0] + 1]) for name in (one, two))
     return None
 
 
 def renamed(text, crate, said):
-    """What proof files call places behind a condition whose sign or number an edit has changed, and what the prover calls them now:
-    {file: the pairs}. Said is what a file has."""
+    """What proof files call places whose names have a word of the code that an edit has changed, as a condition's number or an index,
+    and what the prover calls them now, where one new name alone can be meant: {file: the pairs}. Said is what a file has."""
     labels, found = set(re.findall(r"`([\w-]+)`", text)), {}
     for place, words in prover.errors(text, crate):
         told, file = re.search(r"has no (?:field )?`([\w-]+)`", words), prover.own_file(place)
