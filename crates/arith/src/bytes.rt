@@ -17,7 +17,7 @@ fn half_carry(a: u8, b: u8, k: bool) -> bool
     ensures { result ≡ carry_of 4 a b (one_if k) }
 {
     let sum = (((a as u16) + (b as u16) + (one_if(k) as u16)) % 256) as u8;
-    bit(4, a ^ b ^ sum)
+    (a ^ b ^ sum) / 16 % 2 == 1
 }
 
 // The borrow from bit 4 of a - b - k, found in the same way.
@@ -25,7 +25,7 @@ fn half_borrow(a: u8, b: u8, k: bool) -> bool
     ensures { result ≡ borrow_of 4 a b (one_if k) }
 {
     let difference = (((a as u16) + 256 - ((b as u16) + (one_if(k) as u16))) % 256) as u8;
-    bit(4, a ^ b ^ difference)
+    (a ^ b ^ difference) / 16 % 2 == 1
 }
 
 fn add(a: u8, b: u8, k: bool) -> Byte
