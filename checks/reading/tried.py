@@ -20,7 +20,7 @@ def log(root, name, file):
 
 
 TELLING = r"fn \S+: (?!proved)|note: \S+\.rt:\d+:\d+: it is not proved|\S+\.(antt|rt):\d+:\d+: error|rt: the library|logic=|  "
-WIDEST = 400
+WIDEST = 1000  # letters of a line
 
 
 def telling(text):
