@@ -153,7 +153,8 @@ def calls(text):
 def exchanged(changes):
     """Whether an edit, as (old, new), has calls of one name in another order. The prover counts them off where it names a function's
     steps, so that a proof file then speaks of each in the place of the other."""
-    before, after = (calls("\n".join(texts)) for texts in zip(*changes)) if changes else ({}, {})
+    straight = [(old, new) for old, new in changes if not re.match(r"\s*\S+ =>", old)]  # a call in an arm goes by its arm's name
+    before, after = (calls("\n".join(texts)) for texts in zip(*straight)) if straight else ({}, {})
     return any(some != after.get(name) and sorted(some) == sorted(after.get(name, [])) for name, some in before.items())
 
 
