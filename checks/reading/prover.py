@@ -94,7 +94,8 @@ def errors(text, crate):
         for more in lines[at + 1 : at + 4]:
             if not more.startswith("  "):
                 break
-            words += " " + more.strip()
+            if "so what is shown does not paste back" not in more:  # a hint on how a term is printed
+                words += " " + more.strip()
         if not re.search(FOLLOWS, words):
             found.append((placed(text, crate, told.group(1), told.group(2)), words))
     return sorted(found, key=lambda error: not any(f"/{file}:" in error[0] for file in OWN))
