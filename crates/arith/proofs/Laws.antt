@@ -10,8 +10,8 @@ use Rattle.arith.specs.Bytes.{added_of, subtracted_of, logic_of, compared_of, al
 use Rattle.arith.specs.Rotates.{rotated_of, rotation_of, rotation_a_of}
 use Rattle.arith.specs.Decimal.{adjusted_of, after_subtraction_of, after_addition_of, by_last, decimal_of}
 use Rattle.arith.specs.Words.{word_of, high_of, low_of, further, back, offset_by, offset_of, added_hl_of, added_sp_of}
-use Rattle.arith.specs.declared.Byte.{Byte}
-use Rattle.arith.specs.declared.Word.{Word}
+use Rattle.arith.specs.Flagged.{Byte}
+use Rattle.arith.specs.Flagged.{Word}
 use Rattle.arith.specs.declared.Alu.{Alu}
 use Rattle.arith.specs.declared.Alu.TheVariants.{Add, Adc, Sub, Sbc, And, Xor, Or, Cp}
 use Rattle.arith.specs.declared.Rot.{Rot}

@@ -1,7 +1,8 @@
 -- Each public promise determines its answer: any two answers that meet it for the same arguments are one. The theorems speak of
 -- `Post`, the claim that is read off a function's own `ensures`, so that a promise that says less does not have its theorem.
 -- Assumes nothing.
-use Rattle.std.proofs.Common.{◌≡◌, sym, ◌∙◌}
+use Rattle.std.proofs.Common.{◌≡◌, sym, ◌∙◌, Bool}
+use Rattle.arith.specs.declared.Flag.TheVariants.{Z, C}
 use Rattle.arith.proofs.bytes.operate.Reads as operate
 use Rattle.arith.proofs.bytes.increase.Reads as increase
 use Rattle.arith.proofs.bytes.decrease.Reads as decrease
@@ -11,8 +12,8 @@ use Rattle.arith.proofs.bytes.set.Reads as set
 use Rattle.arith.proofs.bytes.test.Reads as test
 use Rattle.arith.proofs.decimal.adjust.Reads as adjust
 use Rattle.arith.proofs.flags.pack.Reads as pack
-use Rattle.arith.proofs.flags.zero.Reads as zero
-use Rattle.arith.proofs.flags.carry.Reads as carry
+use Rattle.arith.proofs.Flag.is_set.Reads as is-set
+use Rattle.arith.proofs.refused.U8FromRefusal.from.Reads as number
 use Rattle.arith.proofs.rotates.rotate.Reads as rotate
 use Rattle.arith.proofs.rotates.rotate_a.Reads as rotate-a
 use Rattle.arith.proofs.words.word.Reads as word
@@ -64,11 +65,18 @@ adjust_unique _ _ _ _ _ _ = same
 pub pack_unique : OneAnswer pack.Post
 pack_unique _ _ _ _ _ _ = same
 
-pub zero_unique : OneAnswer zero.Post
-zero_unique _ _ _ _ _ _ = same
+pub is_set_unique : OneAnswer is-set.Post
+is_set_unique _ _ _ _ _ _ = same
 
-pub carry_unique : OneAnswer carry.Post
-carry_unique _ _ _ _ _ _ = same
+-- the same at the two flags that conditions look at: its first argument is the flag
+pub zero_unique : (κs : _) (a : _) (x y : Bool) (e f : _) → is-set.Post κs (Z, a) x e → is-set.Post κs (Z, a) y f → x ≡ y
+zero_unique κs a = is_set_unique κs (Z, a)
+
+pub carry_unique : (κs : _) (a : _) (x y : Bool) (e f : _) → is-set.Post κs (C, a) x e → is-set.Post κs (C, a) y f → x ≡ y
+carry_unique κs a = is_set_unique κs (C, a)
+
+pub number_unique : OneAnswer number.Post
+number_unique _ _ _ _ _ _ = same
 
 pub rotate_unique : OneAnswer rotate.Post
 rotate_unique _ _ _ _ _ _ = same

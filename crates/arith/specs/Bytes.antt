@@ -4,7 +4,7 @@
 use Rattle.std.specs.Prelude.{ℕ, ◌-◌, ◌/◌, ◌%◌, ◌^◌, Bool, true, false, not, ◌==◌, bit_and, bit_or, bit_xor}
 use Rattle.arith.specs.Width.{one_if, sum_of, difference_of, carry_of, borrow_of}
 use Rattle.arith.specs.Flags.{flags_of, c_of}
-use Rattle.arith.specs.declared.Byte.{Byte}
+use Rattle.arith.specs.Flagged.{Byte}
 use Rattle.arith.specs.declared.Alu.{Alu}
 use Rattle.arith.specs.declared.Alu.TheVariants.{Add, Adc, Sub, Sbc, And, Xor, Or, Cp}
 

@@ -5,7 +5,7 @@ use Rattle.std.specs.Prelude.{ℕ, ◌+◌, ◌%◌, Bool, true, false, ◌||◌
 use Rattle.arith.specs.Width.{sum_of, difference_of}
 use Rattle.arith.specs.Flags.{weight_if, flags_of, n_of, h_of, c_of}
 use Rattle.arith.specs.Bytes.{is_zero}
-use Rattle.arith.specs.declared.Byte.{Byte}
+use Rattle.arith.specs.Flagged.{Byte}
 
 -- the adjustment: $06 for the low digit, $60 for the high one
 unfoldable pub adjustment_of : Bool → Bool → ℕ

@@ -1,6 +1,8 @@
 -- The flags byte F: Z $80, N $40, H $20, C $10, and the low four bits 0. Document 01, "Flags".
 -- Assumes nothing.
 use Rattle.std.specs.Prelude.{ℕ, ◌+◌, ◌/◌, ◌%◌, Bool, true, false, ◌==◌}
+use Rattle.arith.specs.declared.Flag.{Flag}
+use Rattle.arith.specs.declared.Flag.TheVariants.{Z, N, H, C}
 
 -- the weight of a flag where it is set, and 0 where it is not
 unfoldable pub weight_if : Bool → ℕ → ℕ
@@ -23,3 +25,10 @@ h_of f = f / 0x20 % 2 == 1
 
 unfoldable pub c_of : ℕ → Bool
 c_of f = f / 0x10 % 2 == 1
+
+-- the flag of a name
+unfoldable pub flag_of : Flag → ℕ → Bool
+flag_of Z f = z_of f
+flag_of N f = n_of f
+flag_of H f = h_of f
+flag_of C f = c_of f

@@ -2,8 +2,10 @@
 -- Read in this order.
 pub mod Width
 pub mod Flags
+pub mod Flagged
 pub mod Bytes
 pub mod Rotates
 pub mod Decimal
 pub mod Words
 pub mod Refusals
+pub mod Numbers

@@ -4,7 +4,7 @@ use Rattle.std.specs.Prelude.{ℕ, ◌+◌, ◌*◌, ◌/◌, ◌%◌, Bool, fal
 use Rattle.arith.specs.Width.{one_if}
 use Rattle.arith.specs.Flags.{flags_of}
 use Rattle.arith.specs.Bytes.{is_zero}
-use Rattle.arith.specs.declared.Byte.{Byte}
+use Rattle.arith.specs.Flagged.{Byte}
 use Rattle.arith.specs.declared.Rot.{Rot}
 use Rattle.arith.specs.declared.Rot.TheVariants.{Rlc, Rrc, Rl, Rr, Sla, Sra, Swap, Srl}
 

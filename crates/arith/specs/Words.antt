@@ -3,7 +3,7 @@
 use Rattle.std.specs.Prelude.{ℕ, ◌+◌, ◌-◌, ◌*◌, ◌/◌, ◌%◌, Bool, true, false, nat_lt}
 use Rattle.arith.specs.Width.{sum_of, difference_of, carry_of}
 use Rattle.arith.specs.Flags.{flags_of, z_of}
-use Rattle.arith.specs.declared.Word.{Word}
+use Rattle.arith.specs.Flagged.{Word}
 
 -- a word from its high and its low byte, and each of them back
 unfoldable pub word_of : ℕ → ℕ → ℕ

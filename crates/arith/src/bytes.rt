@@ -1,22 +1,17 @@
 // Operations on bytes: the eight of A and an operand, INC, DEC, BIT, RES and SET.
-ghost use Rattle.std.specs.Prelude.{◌≡◌, ◌≤◌};
-ghost use Rattle.arith.specs.Width.{one_if, sum_of, difference_of, carry_of, borrow_of};
+#![tactic(auto, using(crate::proofs::Laws::one_hot), unfolding(crate::specs::Flags::flag_of, crate::specs::Bytes::logic_of, crate::specs::Bytes::compared_of, crate::specs::Bytes::alu_of, crate::specs::Bytes::increased_of, crate::specs::Bytes::decreased_of, crate::specs::Bytes::bit_of, crate::specs::Bytes::reset_of, crate::specs::Bytes::set_of, crate::specs::Bytes::tested_of, crate::specs::Width::sum_of, crate::specs::Width::difference_of))]
+
+ghost use Rattle.std.specs.Prelude.{◌≡◌};
+ghost use Rattle.arith.specs.Width.{one_if, carry_of, borrow_of};
 ghost use Rattle.arith.specs.Bytes.{added_of, subtracted_of, logic_of, compared_of, alu_of, increased_of, decreased_of, bit_of, reset_of, set_of, tested_of};
 
-use crate::{Alu, Byte, flags};
-
-// A carry as a number.
-pub(crate) fn one_if(on: bool) -> u8
-    ensures { (result ≡ one_if on) × (result ≤ 1) }
-{
-    if on { 1 } else { 0 }
-}
+use crate::{Alu, Byte, Flag, flags};
 
 // The carry out of bit 3 of a + b + k, as the manual draws it: bit 4 of a, b and the result, exclusive-or'd.
 fn half_carry(a: u8, b: u8, k: bool) -> bool
     ensures { result ≡ carry_of 4 a b (one_if k) }
 {
-    let sum = (((a as u16) + (b as u16) + (one_if(k) as u16)) % 256) as u8;
+    let sum = a.wrapping_add(b).wrapping_add(u8::from(k));
     (a ^ b ^ sum) / 16 % 2 == 1
 }
 
@@ -24,31 +19,29 @@ fn half_carry(a: u8, b: u8, k: bool) -> bool
 fn half_borrow(a: u8, b: u8, k: bool) -> bool
     ensures { result ≡ borrow_of 4 a b (one_if k) }
 {
-    let difference = (((a as u16) + 256 - ((b as u16) + (one_if(k) as u16))) % 256) as u8;
+    let difference = a.wrapping_sub(b).wrapping_sub(u8::from(k));
     (a ^ b ^ difference) / 16 % 2 == 1
 }
 
 fn add(a: u8, b: u8, k: bool) -> Byte
     ensures { result ≡ added_of a b k }
 {
-    let sum = (a as u16) + (b as u16) + (one_if(k) as u16);
-    let value = (sum % 256) as u8;
+    let (value, c) = a.carrying_add(b, k);
     let h = half_carry(a, b, k);
     Byte {
         value,
-        flags: flags::pack(value == 0, false, h, 256 <= sum),
+        flags: flags::pack(value == 0, false, h, c),
     }
 }
 
 fn subtract(a: u8, b: u8, k: bool) -> Byte
     ensures { result ≡ subtracted_of a b k }
 {
-    let taken = (b as u16) + (one_if(k) as u16);
-    let value = (((a as u16) + 256 - taken) % 256) as u8;
+    let (value, c) = a.borrowing_sub(b, k);
     let h = half_borrow(a, b, k);
     Byte {
         value,
-        flags: flags::pack(value == 0, true, h, (a as u16) < taken),
+        flags: flags::pack(value == 0, true, h, c),
     }
 }
 
@@ -78,9 +71,9 @@ pub fn operate(op: Alu, a: u8, b: u8, f: u8) -> Byte
 {
     match op {
         Alu::Add => add(a, b, false),
-        Alu::Adc => add(a, b, flags::carry(f)),
+        Alu::Adc => add(a, b, Flag::C.is_set(f)),
         Alu::Sub => subtract(a, b, false),
-        Alu::Sbc => subtract(a, b, flags::carry(f)),
+        Alu::Sbc => subtract(a, b, Flag::C.is_set(f)),
         Alu::And => logic(a & b, true),
         Alu::Xor => logic(a ^ b, false),
         Alu::Or => logic(a | b, false),
@@ -91,22 +84,22 @@ pub fn operate(op: Alu, a: u8, b: u8, f: u8) -> Byte
 pub fn increase(v: u8, f: u8) -> Byte
     ensures { result ≡ increased_of v f }
 {
-    let value = (((v as u16) + 1) % 256) as u8;
+    let value = v.wrapping_add(1);
     let h = half_carry(v, 1, false);
     Byte {
         value,
-        flags: flags::pack(value == 0, false, h, flags::carry(f)),
+        flags: flags::pack(value == 0, false, h, Flag::C.is_set(f)),
     }
 }
 
 pub fn decrease(v: u8, f: u8) -> Byte
     ensures { result ≡ decreased_of v f }
 {
-    let value = (((v as u16) + 255) % 256) as u8;
+    let value = v.wrapping_sub(1);
     let h = half_borrow(v, 1, false);
     Byte {
         value,
-        flags: flags::pack(value == 0, true, h, flags::carry(f)),
+        flags: flags::pack(value == 0, true, h, Flag::C.is_set(f)),
     }
 }
 
@@ -132,5 +125,5 @@ pub fn set(k: u8, v: u8) -> u8
 pub fn test(k: u8, v: u8, f: u8) -> u8
     ensures { result ≡ tested_of k v f }
 {
-    flags::pack(!bit(k, v), false, true, flags::carry(f))
+    flags::pack(!bit(k, v), false, true, Flag::C.is_set(f))
 }

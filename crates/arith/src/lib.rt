@@ -4,25 +4,32 @@
 pub mod bytes;
 pub mod decimal;
 pub mod flags;
+mod refused;
 pub mod rotates;
 pub mod words;
 
-// A byte and the F that comes with it.
-#[derive(Clone, Copy)]
-pub struct Byte {
-    pub value: u8,
+// A value and the F that comes with it.
+#[derive(Clone, Copy, PartialEq, Eq, Debug)]
+pub struct Flagged<T> {
+    pub value: T,
     pub flags: u8,
 }
 
-// A word and the F that comes with it.
-#[derive(Clone, Copy)]
-pub struct Word {
-    pub value: u16,
-    pub flags: u8,
+pub type Byte = Flagged<u8>;
+
+pub type Word = Flagged<u16>;
+
+// The flags, by their names in F.
+#[derive(Clone, Copy, PartialEq, Eq, Debug)]
+pub enum Flag {
+    Z,
+    N,
+    H,
+    C,
 }
 
 // The eight operations on A and an operand.
-#[derive(Clone, Copy)]
+#[derive(Clone, Copy, PartialEq, Eq, Debug)]
 pub enum Alu {
     Add,
     Adc,
@@ -35,7 +42,7 @@ pub enum Alu {
 }
 
 // The eight rotates and shifts.
-#[derive(Clone, Copy)]
+#[derive(Clone, Copy, PartialEq, Eq, Debug)]
 pub enum Rot {
     Rlc,
     Rrc,
@@ -45,4 +52,23 @@ pub enum Rot {
     Sra,
     Swap,
     Srl,
+}
+
+// What is refused, in the order of the numbers.
+#[derive(Clone, Copy, PartialEq, Eq, Debug)]
+pub enum Refusal {
+    MemoryLength,
+    LowFlags,
+    Stopped,
+    Undefined,
+    Budget,
+    Length,
+    Version,
+    BlockLength,
+    Codes,
+    Room,
+    Edition,
+    Form,
+    Nesting,
+    Range,
 }

@@ -1,20 +1,24 @@
 // Words of 16 bits, their two bytes, and their sums with words and signed bytes.
+#![tactic(auto, unfolding(crate::specs::Flags::flag_of, crate::specs::Words::word_of, crate::specs::Words::high_of, crate::specs::Words::low_of, crate::specs::Words::further, crate::specs::Words::back, crate::specs::Words::offset_by, crate::specs::Words::offset_of, crate::specs::Width::sum_of, crate::specs::Width::difference_of))]
+
 ghost use Rattle.std.specs.Prelude.{◌≡◌};
 ghost use Rattle.arith.specs.Width.{carry_of};
 ghost use Rattle.arith.specs.Words.{word_of, high_of, low_of, further, back, offset_of, added_hl_of, added_sp_of};
 
-use crate::{Word, flags};
+use crate::{Flag, Word, flags};
 
+// Stays: `word`, `high` and `low` were tried by `from_be_bytes` and `to_be_bytes`. The bar that misses is `bench/run --instructions`: the
+// adding loop takes 27 instructions a step more, 97.5 for 70.6.
 pub fn word(hi: u8, lo: u8) -> u16
     ensures { result ≡ word_of hi lo }
 {
-    (hi as u16) * 256 + (lo as u16)
+    u16::from(hi) * 256 + u16::from(lo)
 }
 
 pub fn high(w: u16) -> u8
     ensures { result ≡ high_of w }
 {
-    (w / 256 % 256) as u8
+    (w / 256) as u8
 }
 
 pub fn low(w: u16) -> u8
@@ -27,44 +31,40 @@ pub fn low(w: u16) -> u8
 pub fn further(n: u16, w: u16) -> u16
     ensures { result ≡ further n w }
 {
-    std::num::wrapping_add_u16(w, n)
+    w.wrapping_add(n)
 }
 
 // n back, modulo 65,536.
 pub fn back(n: u16, w: u16) -> u16
     ensures { result ≡ back n w }
 {
-    std::num::wrapping_sub_u16(w, n)
+    w.wrapping_sub(n)
 }
 
 // A signed byte further or back.
 pub fn offset(e: u8, w: u16) -> u16
     ensures { result ≡ offset_of e w }
 {
-    if e < 0x80 {
-        std::num::wrapping_add_u16(w, e as u16)
-    } else {
-        std::num::wrapping_sub_u16(w, 256 - (e as u16))
-    }
+    w.wrapping_add_signed(i16::from(e.cast_signed()))
 }
 
 pub fn add_hl(hl: u16, v: u16, f: u8) -> Word
     ensures { result ≡ added_hl_of hl v f }
 {
-    let sum = (hl as u32) + (v as u32);
+    let (value, c) = hl.overflowing_add(v);
     let h = 4096 <= hl % 4096 + v % 4096;
     Word {
-        value: (sum % 65536) as u16,
-        flags: flags::pack(flags::zero(f), false, h, 65536 <= sum),
+        value,
+        flags: flags::pack(Flag::Z.is_set(f), false, h, c),
     }
 }
 
 pub fn add_sp(sp: u16, e: u8) -> Word
     ensures { result ≡ added_sp_of sp e }
 {
-    let low = (e as u16) % 16;
+    let low = u16::from(e) % 16;
     let h = 16 <= sp % 16 + low;
-    let c = 256 <= sp % 256 + (e as u16);
+    let c = 256 <= sp % 256 + u16::from(e);
     Word {
         value: offset(e, sp),
         flags: flags::pack(false, false, h, c),

@@ -1,4 +1,6 @@
 // The glyphs of digits, in ASCII.
+#![tactic(auto, unfolding(crate::specs::Ascii::ascii, crate::specs::Numerals::glyph_of))]
+
 ghost use Rattle.std.specs.Prelude.{◌≡◌};
 ghost use Rattle.digits.specs.Numerals.{glyph_of};
 
@@ -7,5 +9,5 @@ pub fn glyph(digit: u8) -> u8
     ensures { result ≡ glyph_of digit }
 {
     let glyphs = b"0123456789ABCDEF";
-    glyphs[(digit % 16) as usize]
+    glyphs[usize::from(digit % 16)]
 }

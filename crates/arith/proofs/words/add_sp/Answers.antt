@@ -8,4 +8,4 @@ pub returns : goal.returns
 unfolding added_sp_of carry_of
 returns c =
     let a = c.args in
-    rw (c.pack.ensures, c.offset.ensures, mod-eq_of_lt {n = a.e} {m = 256} (omega arith)) (simp add-zero)
+    rw (c.pack.ensures, c.offset.ensures, c.from.ensures, c.from-low.ensures, mod-eq_of_lt {n = a.e} {m = 256} (omega arith)) (simp add-zero)
