@@ -2,6 +2,7 @@
 -- Assumes nothing.
 use Rattle.arith.proofs.Unique.{same, OneAnswer}
 use Rattle.insn.proofs.decode.decode.Reads as decode
+use Rattle.insn.proofs.places.OperandFromPlace.from.Reads as operand
 use Rattle.insn.proofs.table.length.Reads as length
 use Rattle.insn.proofs.table.untaken_cycles.Reads as untaken-cycles
 
@@ -13,3 +14,6 @@ length_unique _ _ _ _ _ _ = same
 
 pub untaken_cycles_unique : OneAnswer untaken-cycles.Post
 untaken_cycles_unique _ _ _ _ _ _ = same
+
+pub operand_unique : OneAnswer operand.Post
+operand_unique _ _ _ _ _ _ = same

@@ -1,15 +1,18 @@
 // Instructions: what each byte of a program means. Nothing here knows the processor's state or the memory.
 #![tactic(auto)]
 
+ghost use Rattle.std.specs.Prelude.{◌≡◌};
+
 use arith::{Alu, Rot};
 
 pub mod decode;
+mod places;
 mod prefixed;
 mod rows;
 pub mod table;
 
 // The registers of eight bits that an operand can be.
-#[derive(Clone, Copy)]
+#[derive(Clone, Copy, PartialEq, Eq, Debug)]
 pub enum Register {
     B,
     C,
@@ -21,7 +24,7 @@ pub enum Register {
 }
 
 // An operand: a register, the byte at HL, or a constant carried with it.
-#[derive(Clone, Copy)]
+#[derive(Clone, Copy, PartialEq, Eq, Debug)]
 pub enum Operand {
     Reg(Register),
     AtHl,
@@ -29,7 +32,7 @@ pub enum Operand {
 }
 
 // A place that a byte can be put into: a register or the byte at HL.
-#[derive(Clone, Copy)]
+#[derive(Clone, Copy, PartialEq, Eq, Debug)]
 pub enum Place {
     B,
     C,
@@ -42,7 +45,7 @@ pub enum Place {
 }
 
 // The pairs that count and add.
-#[derive(Clone, Copy)]
+#[derive(Clone, Copy, PartialEq, Eq, Debug)]
 pub enum Pair {
     Bc,
     De,
@@ -51,7 +54,7 @@ pub enum Pair {
 }
 
 // The pairs that go on the stack.
-#[derive(Clone, Copy)]
+#[derive(Clone, Copy, PartialEq, Eq, Debug)]
 pub enum Stacked {
     Bc,
     De,
@@ -60,7 +63,7 @@ pub enum Stacked {
 }
 
 // The pairs that A is stored and loaded through; the last two move HL on or back.
-#[derive(Clone, Copy)]
+#[derive(Clone, Copy, PartialEq, Eq, Debug)]
 pub enum Pointer {
     Bc,
     De,
@@ -69,7 +72,7 @@ pub enum Pointer {
 }
 
 // The conditions of jumps, calls and returns.
-#[derive(Clone, Copy)]
+#[derive(Clone, Copy, PartialEq, Eq, Debug)]
 pub enum Cond {
     Nz,
     Z,
@@ -79,7 +82,7 @@ pub enum Cond {
 
 // The instructions, in the grid's order; the names say what each does where the reference's are short. What an instruction
 // changes is a place, what it only reads an operand.
-#[derive(Clone, Copy)]
+#[derive(Clone, Copy, PartialEq, Eq, Debug)]
 pub enum Insn {
     Nop,
     StoreSp(u16),
@@ -133,9 +136,17 @@ pub enum Insn {
 
 // An instruction with the number of bytes after its first, and its cycles where no branch is taken.
 // An undefined one has no cycles.
-#[derive(Clone, Copy)]
+#[derive(Clone, Copy, PartialEq, Eq, Debug)]
 pub struct Decoded {
     pub insn: Insn,
     pub more: u16,
     pub cycles: u8,
+}
+
+impl Decoded {
+    pub(crate) fn new(insn: Insn, more: u16, cycles: u8) -> Decoded
+        ensures { result ≡ record { insn = insn; more = more; cycles = cycles } }
+    {
+        Decoded { insn, more, cycles }
+    }
 }

@@ -1,17 +1,18 @@
 // The bytes after the prefix $CB, by the grid.
-ghost use Rattle.std.specs.Prelude.{◌≡◌, ◌≤◌, ◌<◌, ◌*◌, ◌+◌};
-ghost use Rattle.insn.specs.Grid.{r_at, operand_of, rot_at, prefixed_of};
-ghost use Rattle.insn.specs.Shapes.{access_of, shaped_of};
+ghost use Rattle.std.specs.Prelude.{◌≡◌, ◌/◌, ◌%◌};
+ghost use Rattle.insn.specs.Grid.{r_at, rot_at, prefixed_of};
+ghost use Rattle.insn.specs.Shapes.{shaped_of};
 
 use crate::{Decoded, Insn, Place};
 use arith::Rot;
 
-// r: B C D E H L [HL] A.
-fn place(k: u8) -> Place
-    requires { k < 8 }
-    ensures { result ≡ r_at k }
+// r, by the low three bits.
+// Stays: TryFrom would refuse numbers that three bits never are.
+#[tactic(auto, unfolding(crate::specs::Grid::r_at))]
+fn place(op: u8) -> Place
+    ensures { result ≡ r_at (op % 8) }
 {
-    match k {
+    match op % 8 {
         0 => Place::B,
         1 => Place::C,
         2 => Place::D,
@@ -23,12 +24,13 @@ fn place(k: u8) -> Place
     }
 }
 
-// rot: RLC RRC RL RR SLA SRA SWAP SRL.
-fn rotate(k: u8) -> Rot
-    requires { k < 8 }
-    ensures { result ≡ rot_at k }
+// rot, by the three bits above them.
+// Stays: as r.
+#[tactic(auto, unfolding(crate::specs::Grid::rot_at))]
+fn rotate(op: u8) -> Rot
+    ensures { result ≡ rot_at (op / 8 % 8) }
 {
-    match k {
+    match op / 8 % 8 {
         0 => Rot::Rlc,
         1 => Rot::Rrc,
         2 => Rot::Rl,
@@ -40,44 +42,18 @@ fn rotate(k: u8) -> Rot
     }
 }
 
-// One access where the place is in memory.
-fn access(p: Place) -> u8
-    ensures { (result ≡ access_of (operand_of p)) × (result ≤ 1) }
-{
-    match p {
-        Place::B => 0,
-        Place::C => 0,
-        Place::D => 0,
-        Place::E => 0,
-        Place::H => 0,
-        Place::L => 0,
-        Place::AtHl => 1,
-        Place::A => 0,
-    }
-}
-
-// A prefixed instruction has one byte after its first.
-fn given(insn: Insn, cycles: u8) -> Decoded
-    ensures { result ≡ record { insn = insn; more = 1; cycles = cycles } }
-{
-    Decoded {
-        insn,
-        more: 1,
-        cycles,
-    }
-}
-
+// Each has one byte after its first; all but BIT store what they read.
+#[tactic(auto, unfolding(crate::specs::Grid::nth, crate::specs::Grid::prefixed_at, crate::specs::Grid::prefixed_of, crate::specs::Shapes::shape_of, crate::specs::Shapes::shaped_of))]
 pub(crate) fn decode(op: u8) -> Decoded
     ensures { result ≡ shaped_of (prefixed_of op) }
 {
-    let p = place(op % 8);
+    let p = place(op);
     let y = op / 8 % 8;
-    let a = access(p);
-    let x = op / 64;
-    match x {
-        0 => given(Insn::Rotate(rotate(y), p), 2 + 2 * a),
-        1 => given(Insn::Bit(y, p), 2 + a),
-        2 => given(Insn::Res(y, p), 2 + 2 * a),
-        _ => given(Insn::Set(y, p), 2 + 2 * a),
+    let a = p.accesses();
+    match op / 64 {
+        0 => Decoded::new(Insn::Rotate(rotate(op), p), 1, 2 + 2 * a),
+        1 => Decoded::new(Insn::Bit(y, p), 1, 2 + a),
+        2 => Decoded::new(Insn::Res(y, p), 1, 2 + 2 * a),
+        _ => Decoded::new(Insn::Set(y, p), 1, 2 + 2 * a),
     }
 }

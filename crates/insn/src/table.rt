@@ -1,5 +1,5 @@
 // The table of 512 rows: rows 0 to 255 are the opcode bytes, rows 256 to 511 the bytes after the prefix $CB.
-ghost use Rattle.std.specs.Prelude.{◌≡◌};
+ghost use Rattle.std.specs.Prelude.{◌≡◌, get_or};
 ghost use Rattle.insn.specs.Table.{length_of, untaken_of};
 
 // The bytes of each row's instruction, the prefix counted; undefined rows and row $CB have 0.
@@ -76,14 +76,22 @@ const CYCLES: [u8; 512] = [
     2, 2, 2, 2, 2, 2, 4, 2, 2, 2, 2, 2, 2, 2, 4, 2,
 ];
 
+// A row past the table has nothing.
+fn entry(table: &[u8; 512], row: u32) -> u8
+    ensures { result ≡ get_or table.now row 0 }
+{
+    // Stays: `as`, for `usize` has no From of u32, and `usize::try_from(row).ok().and_then(..)` has an arm that is never taken.
+    table.get(row as usize).copied().unwrap_or(0)
+}
+
 pub fn length(row: u32) -> u8
     ensures { result ≡ length_of row }
 {
-    if row < 512 { LENGTHS[row as usize] } else { 0 }
+    entry(&LENGTHS, row)
 }
 
 pub fn untaken_cycles(row: u32) -> u8
     ensures { result ≡ untaken_of row }
 {
-    if row < 512 { CYCLES[row as usize] } else { 0 }
+    entry(&CYCLES, row)
 }

@@ -1,55 +1,34 @@
 -- `insn::decode::decode` meets its contract: the row of each byte answers for it. Assumes nothing.
-use native.Mathlib.Omega.{arith}
-use Rattle.insn.proofs.Last.{last}
+use mathlib.Core.Path.{◌∙◌, refl}
+use Rattle.arith.specs.declared.Alu.TheVariants as alu
+use Rattle.insn.specs.declared.Place.TheVariants as place
+use Rattle.insn.proofs.Told.{entries, row, loads_at, sums_at}
 use Rattle.insn.proofs.decode.decode.Goals as goal
 
-pub row_f-requires : goal.row_f-requires
-row_f-requires c = last 15 _ (omega arith) c.in_default.in_default-own.rest
-
-pub returns-in-0 : goal.returns-in-0
-returns-in-0 c = c.row_0.ensures
-
-pub returns-in-1 : goal.returns-in-1
-returns-in-1 c = c.row_1.ensures
-
-pub returns-in-2 : goal.returns-in-2
-returns-in-2 c = c.row_2.ensures
-
-pub returns-in-3 : goal.returns-in-3
-returns-in-3 c = c.row_3.ensures
-
 pub returns-in-4 : goal.returns-in-4
-returns-in-4 c = c.row_4.ensures
+unfolding entries
+returns-in-4 c = c.lines.ensures ∙ row (loads_at place.B place.C) 4 _ _ _ c.in-4.is refl
 
 pub returns-in-5 : goal.returns-in-5
-returns-in-5 c = c.row_5.ensures
+unfolding entries
+returns-in-5 c = c.lines-in-5.ensures ∙ row (loads_at place.D place.E) 5 _ _ _ c.in-5.is refl
 
 pub returns-in-6 : goal.returns-in-6
-returns-in-6 c = c.row_6.ensures
-
-pub returns-in-7 : goal.returns-in-7
-returns-in-7 c = c.row_7.ensures
+unfolding entries
+returns-in-6 c = c.lines-in-6.ensures ∙ row (loads_at place.H place.L) 6 _ _ _ c.in-6.is refl
 
 pub returns-in-8 : goal.returns-in-8
-returns-in-8 c = c.row_8.ensures
+unfolding entries
+returns-in-8 c = c.lines-in-8.ensures ∙ row (sums_at alu.Add alu.Adc) 8 _ _ _ c.in-8.is refl
 
 pub returns-in-9 : goal.returns-in-9
-returns-in-9 c = c.row_9.ensures
+unfolding entries
+returns-in-9 c = c.lines-in-9.ensures ∙ row (sums_at alu.Sub alu.Sbc) 9 _ _ _ c.in-9.is refl
 
 pub returns-in-10 : goal.returns-in-10
-returns-in-10 c = c.row_a.ensures
+unfolding entries
+returns-in-10 c = c.lines-in-10.ensures ∙ row (sums_at alu.And alu.Xor) 10 _ _ _ c.in-10.is refl
 
 pub returns-in-11 : goal.returns-in-11
-returns-in-11 c = c.row_b.ensures
-
-pub returns-in-12 : goal.returns-in-12
-returns-in-12 c = c.row_c.ensures
-
-pub returns-in-13 : goal.returns-in-13
-returns-in-13 c = c.row_d.ensures
-
-pub returns-in-14 : goal.returns-in-14
-returns-in-14 c = c.row_e.ensures
-
-pub returns-in_default : goal.returns-in_default
-returns-in_default c = c.row_f.ensures
+unfolding entries
+returns-in-11 c = c.lines-in-11.ensures ∙ row (sums_at alu.Or alu.Cp) 11 _ _ _ c.in-11.is refl
