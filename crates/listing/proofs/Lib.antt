@@ -1,8 +1,11 @@
 -- Laws that belong to no one function.
 pub mod Texts
+pub mod Writers
 pub mod Opcodes
 pub mod Bounds
 pub mod Order
+pub mod Left
+pub mod Names
 pub mod Short
 pub mod Taken
 pub mod Whole

@@ -98,7 +98,7 @@ line_first e a (b ∷ bytes) h some = first (length (line_of e a (b ∷ bytes)).
 abbrev pub rest_from : ℕ → List ℕ → List ℕ
 rest_from from part = take (length part - from) (drop from part)
 
-rest_is : (from : ℕ) (part : List ℕ) → rest_from from part ≡ drop from part
+pub rest_is : (from : ℕ) (part : List ℕ) → rest_from from part ≡ drop from part
 rest_is from part = take_all (length part - from) (drop from part) (omega (arith, length-drop from part))
 
 -- the line at a place of a part, how many bytes it has, and the text of what is left there

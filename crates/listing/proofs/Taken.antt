@@ -7,7 +7,7 @@ use mathlib.Core.Path.{◌≡◌, refl, sym}
 use native.Mathlib.Omega.{arith}
 use borrow.Author.Tests.{ltb-true}
 use lib.Dec.{eqb, ltb}
-use lib.ListN.{length}
+use lib.ListN.{length, take}
 use Rattle.arith.specs.Words.{word_of, further}
 use Rattle.digits.specs.Digits.{byte_in}
 use Rattle.insn.specs.Grid.{grid, decode_of}
@@ -15,6 +15,7 @@ use Rattle.insn.specs.Shapes.{shapes, shape_of, is_undefined}
 use Rattle.listing.specs.Spelling.{spelling_text}
 use Rattle.listing.specs.Lines.{insn_in, spelled_in, size_in, is_data, line_if, line_of, line_text}
 use Rattle.listing.specs.declared.Edition.{Edition}
+use Rattle.listing.specs.declared.Operands.{Operands}
 use Rattle.listing.specs.Forms.{marks_text, form_in, operands, forms, data_form, form_at, form_size, Forms, is_data_by, Reads}
 use Rattle.listing.proofs.Opcodes.{each_opcode}
 use Rattle.listing.proofs.Order.{or_left, whole}
@@ -69,9 +70,46 @@ module _ (e : Edition) (a : ℕ) (bytes : List ℕ) (some : 0 < length bytes) (f
   unfolding is_data_by is_data
   data_is = rw (form_data, form_size_lem) (same_test (is_undefined (insn_in bytes)) _ (size_in bytes) (length bytes))
 
-  brief : length (line_text (line_of e a bytes)) ≤ 26
+  pub brief : length (line_text (line_of e a bytes)) ≤ 26
   brief = (line_short e a bytes some first second).0
 
+  -- what spells it by a table of forms
+  abbrev spelled_by : ℕ → Operands → List ℕ → List ℕ
+  spelled_by form o table = marks_text o (form_in form table)
+
+  pub data_by : is_data bytes ≡ true → (table : List ℕ) → Forms table
+      → line_of e a bytes ≡ record { address = a; bytes = take 1 bytes; spelling = spelled_by data_form (operands e 0 (byte_in 0 bytes) 0 0) table }
+  unfolding line_of line_if
+  data_by d table spelled = rw (d, spelled.data_byte e (byte_in 0 bytes) (further 1 a))
+
+  defined : is_data bytes ≡ false → is_undefined (insn_in bytes) ≡ false
+  unfolding is_data
+  defined d = or_left (is_undefined (insn_in bytes)) _ d
+
+  size_is : is_data bytes ≡ false → form_size form ≡ size_in bytes
+  size_is d = rw (defined d) at form_size_lem
+
+  pub insn_fits : is_data bytes ≡ false → form_size form ≤ length bytes
+  insn_fits d = rw (size_is d) (whole bytes d)
+
+  insn_spells : is_data bytes ≡ false → (table : List ℕ) → Forms table
+      → spelling_text (further (size_in bytes) a) (spelled_in e bytes)
+      ≡ spelled_by form (operands e (byte_in 0 bytes) (byte_in 1 bytes) word (further (size_in bytes) a)) table
+  unfolding spelled_in insn_in
+  insn_spells d table spelled =
+      sym (spelled.spell e (byte_in 0 bytes) (byte_in 1 bytes) word (further (size_in bytes) a) first second (defined d))
+
+  pub insn_by : is_data bytes ≡ false → (table : List ℕ) → Forms table
+      → line_of e a bytes
+      ≡ record {
+        address = a;
+        bytes = take (form_size form) bytes;
+        spelling = spelled_by form (operands e (byte_in 0 bytes) (byte_in 1 bytes) word (further (form_size form) a)) table;
+      }
+  unfolding line_of line_if
+  insn_by d table spelled = rw (d, size_is d, insn_spells d table spelled)
+
+  -- the same of what is read by number
   pub data_reads : is_data bytes ≡ true
       → Reads (line_of e a bytes) a bytes (record { form = data_form; bytes = 1; operands = operands e 0 (byte_in 0 bytes) 0 0 })
   unfolding line_of line_if
@@ -85,20 +123,6 @@ module _ (e : Edition) (a : ℕ) (bytes : List ℕ) (some : 0 < length bytes) (f
         spells = λ table spelled. sym (spelled.data_byte e (byte_in 0 bytes) (further 1 a));
         short = rw d at brief;
       })
-
-  defined : is_data bytes ≡ false → is_undefined (insn_in bytes) ≡ false
-  unfolding is_data
-  defined d = or_left (is_undefined (insn_in bytes)) _ d
-
-  size_is : is_data bytes ≡ false → form_size form ≡ size_in bytes
-  size_is d = rw (defined d) at form_size_lem
-
-  insn_spells : is_data bytes ≡ false → (table : List ℕ) → Forms table
-      → spelling_text (further (size_in bytes) a) (spelled_in e bytes)
-      ≡ marks_text (operands e (byte_in 0 bytes) (byte_in 1 bytes) word (further (size_in bytes) a)) (form_in form table)
-  unfolding spelled_in insn_in
-  insn_spells d table spelled =
-      sym (spelled.spell e (byte_in 0 bytes) (byte_in 1 bytes) word (further (size_in bytes) a) first second (defined d))
 
   pub insn_reads : is_data bytes ≡ false
       → Reads (line_of e a bytes) a bytes

@@ -1,12 +1,24 @@
 -- What the listing answers: a code and the length written, and what it leaves in the output. Document 02, M-101 and M-102: 11 for
 -- another edition number than 1 and 2, then 10 where the output is too short; everything then stays as it is.
 -- Assumes nothing.
-use Rattle.std.specs.Prelude.{ℕ, Bool, true, false, ◌||◌, not, List, [], ◌∷◌, ◌++◌, ◌≡◌, eqb, ltb, length, drop}
+use Rattle.std.specs.Prelude.{ℕ, Bool, true, false, ◌||◌, not, List, [], ◌∷◌, ◌++◌, ◌≡◌, Result, Ok, Err, eqb, ltb, length, drop}
 use Rattle.arith.specs.Refusals.{Refusal, ◌when◌, code_of, unless_refused}
 use Rattle.listing.specs.Lines.{listing_of}
 use Rattle.listing.specs.declared.Edition.{Edition}
 use Rattle.listing.specs.declared.Edition.TheVariants.{Old, New}
-use Rattle.listing.specs.declared.Listed.{Listed}
+use Rattle.arith.specs.Numbers.{number_of}
+use Rattle.arith.specs.declared.Refusal as arith
+use Rattle.arith.specs.declared.Refusal.TheVariants as refusal
+
+-- what is answered: a code, and the length of the text that was written
+pub record Listed : Type 0 where
+  pub code : ℕ
+  pub length : ℕ
+
+-- what an answer of the code tells
+unfoldable pub told_list : Result ℕ arith.Refusal → Listed
+told_list (Ok n) = record { code = 0; length = n }
+told_list (Err r) = record { code = number_of r; length = 0 }
 
 -- an answer, and the output with it
 pub record Answer : Type 0 where
@@ -24,6 +36,13 @@ edition_if false = New
 
 unfoldable pub edition_of : ℕ → Edition
 edition_of number = edition_if (eqb number 1)
+
+unfoldable pub numbered_if : Bool → ℕ → Result Edition arith.Refusal
+numbered_if true number = Ok (edition_of number)
+numbered_if false number = Err refusal.Edition
+
+unfoldable pub numbered : ℕ → Result Edition arith.Refusal
+numbered number = numbered_if (eqb number 1 || eqb number 2) number
 
 -- the refusals, in their order
 unfoldable pub room_refusals : List ℕ → List ℕ → List Refusal

@@ -1,7 +1,9 @@
 -- How the code spells: by a table with a form of eight characters for each kind of spelling, in which marks stand for the operands.
 -- Assumes nothing.
-use Rattle.std.specs.Prelude.{ℕ, ◌+◌, ◌*◌, ◌/◌, ◌%◌, ◌<◌, ◌≤◌, Bool, true, false, ◌||◌, ◌&&◌, not, List, [], ◌∷◌, ◌++◌, ◌≡◌, eqb, leb, ltb, length, take, drop}
+use Rattle.std.specs.Prelude.{ℕ, ◌+◌, ◌*◌, ◌/◌, ◌%◌, ◌<◌, ◌≤◌, Bool, true, false, ◌||◌, ◌&&◌, not, List, [], ◌∷◌, ◌++◌, ◌≡◌, eqb, leb, ltb, length, take, drop, Result, Ok, Err}
 use Rattle.arith.specs.Words.{word_of, offset_of}
+use Rattle.arith.specs.declared.Refusal.{Refusal}
+use Rattle.arith.specs.declared.Refusal.TheVariants.{Room}
 use Rattle.digits.specs.Ascii.{ascii}
 use Rattle.digits.specs.Numerals.{glyph_of}
 use Rattle.insn.specs.Grid.{decode_of}
@@ -11,9 +13,6 @@ use Rattle.listing.specs.Spelling.{spelling_in, data_of, hex, signed_text, spell
 use Rattle.listing.specs.declared.Edition.{Edition}
 use Rattle.listing.specs.declared.Edition.TheVariants.{Old, New}
 use Rattle.listing.specs.declared.Operands.{Operands}
-use Rattle.listing.specs.declared.Reading.{Reading}
-use Rattle.listing.specs.declared.Measured.{Measured}
-use Rattle.listing.specs.declared.Measured.TheVariants.{Fits, TooLong}
 
 -- one text or the other
 unfoldable pub text_if : Bool → List ℕ → List ℕ → List ℕ
@@ -89,6 +88,10 @@ marks_text o marks = joined (mark_text o) marks
 -- a form out of the table
 unfoldable pub form_in : ℕ → List ℕ → List ℕ
 form_in form table = take 8 (drop (form * 8) table)
+
+-- the line that a form spells with its operands
+abbrev pub line_by : ℕ → List ℕ → List ℕ → Operands → Line
+line_by a bytes form o = record { address = a; bytes = bytes; spelling = marks_text o form }
 
 -- the byte whose fields name the operands: that after the prefix $CB, where there is one
 unfoldable pub fields_if : Bool → ℕ → ℕ → ℕ
@@ -167,6 +170,12 @@ pub record Forms (table : List ℕ) : Type 0 where
 unfoldable pub is_data_by : ℕ → ℕ → ℕ → ℕ → ℕ → Bool
 is_data_by form size left op n = eqb form data_form || (ltb left size || (eqb op 0x10 && not (eqb n 0)))
 
+-- what is read of a line: the number of its form, how many bytes it has, and its operands
+pub record Reading : Type 0 where
+  pub form : ℕ
+  pub bytes : ℕ
+  pub operands : Operands
+
 -- what a line reads: a form that spells it with its operands, and how many bytes it has; and that no line is longer than 26
 pub record Reads (l : Line) (a : ℕ) (bytes : List ℕ) (r : Reading) : Type 0 where
   pub form : r.form < 50
@@ -177,9 +186,9 @@ pub record Reads (l : Line) (a : ℕ) (bytes : List ℕ) (r : Reading) : Type 0 
   pub short : length (line_text l) ≤ 26
 
 -- a length that there is room for
-unfoldable pub measured_if : Bool → ℕ → Measured
-measured_if true n = Fits n
-measured_if false n = TooLong
+unfoldable pub measured_if : Bool → ℕ → Result ℕ Refusal
+measured_if true n = Ok n
+measured_if false n = Err Room
 
-unfoldable pub measured_of : ℕ → ℕ → Measured
+unfoldable pub measured_of : ℕ → ℕ → Result ℕ Refusal
 measured_of n room = measured_if (leb n room) n

@@ -1,8 +1,7 @@
 -- How the code writes: bytes one after the other from a place of the output on, while there is room.
 -- Assumes nothing.
-use Rattle.std.specs.Prelude.{ℕ, ◌+◌, ◌≤◌, Bool, true, false, List, [], ◌∷◌, ◌≡◌, ltb, length, set}
-use Rattle.listing.specs.Lines.{Line, line_text}
-use Rattle.listing.specs.declared.Put.{Put}
+use Rattle.std.specs.Prelude.{ℕ, ◌+◌, Bool, true, false, List, [], ◌∷◌, ◌≡◌, ltb, length, set}
+use Rattle.listing.specs.declared.writing.Writer.{Writer}
 
 -- the output, and the place that the next byte goes to
 pub record Cursor : Type 0 where
@@ -29,8 +28,12 @@ pub record Reaches (c : Cursor) (at : ℕ) (out : List ℕ) : Type 0 where
   pub place : at ≡ c.at
   pub left : out ≡ c.out
 
--- a line that is put: how many bytes it has, its text written, and that it is no longer than 26
-pub record Puts (l : Line) (c : Cursor) (put : Put) (out : List ℕ) : Type 0 where
-  pub takes : put.bytes ≡ length l.bytes
-  pub reaches : Reaches (written (line_text l) c) put.at out
-  pub short : length (line_text l) ≤ 26
+-- where a writer stands
+abbrev pub cursor_of : Writer → Cursor
+cursor_of w = cursor w.at w.out.now
+
+-- a text that is written by it; the output stays the one that it was lent, where it lies
+pub record Writes (text : List ℕ) (old new : Writer) : Type 0 where
+  pub reaches : Reaches (written text (cursor_of old)) new.at new.out.now
+  pub same : new.out.ghost_name ≡ old.out.ghost_name
+  pub lies : new.out.ref_ptr ≡ old.out.ref_ptr

@@ -1,153 +1,142 @@
-// The forms of the spellings, one for each kind, and the names that their marks stand for.
-ghost use Rattle.std.specs.Prelude.{◌+◌, ◌*◌, ◌<◌, ◌≤◌, length};
-ghost use Rattle.digits.specs.Ascii.{ascii};
-ghost use Rattle.listing.specs.Forms.{name_in, register_text, high_text, step_text, load_text, pointer_text, named_text, mark_text, marks_text, form_in};
-ghost use Rattle.listing.specs.Written.{Reaches, cursor, written};
+// What the marks of a form stand for, written: names and constants.
+#![tactic(auto, using(crate::proofs::Writers::after, crate::proofs::Writers::unwritten), unfolding(crate::specs::Forms::forms, digits::specs::Ascii::ascii))]
 
-use crate::{Edition, Operands, writing};
+ghost use Rattle.std.specs.Prelude.{◌<◌, [], get_or, length, map};
+ghost use Rattle.digits.specs.Ascii.{ascii};
+ghost use Rattle.listing.specs.Forms.{register_text, high_text, step_text, load_text, pointer_text, named_text, mark_text, marks_text};
+ghost use Rattle.listing.specs.Written.{Writes};
+
+use crate::writing::Writer;
+use crate::{Edition, Operands};
 use arith::words;
 use digits::glyphs;
 
-// Eight characters a form: 29 of one byte, the last of them that of data, then 13 of two bytes and 8 of three. A small letter is a mark,
-// and points fill a form up. The pair of LD HL,SP+e8 is named by the opcode's own field. Both editions have these forms: they differ in
-// what three marks stand for.
-#[rattlefmt::skip]
-pub(crate) const FORMS: [u8; 400] = *b"\
-    NOP.....ADD HL,pl [t],A.l A,[t].INC p...DEC p...INC y...DEC y...LD y,z..oA......\
-    DAA.....CPL.....SCF.....CCF.....HALT....a A,z...RET c...POP q...RET.....RETI....\
-    JP HL...LD SP,HLi [C],A.i A,[C].DI......EI......PUSH q..RST v...DB b....\
-    STOP....JR j....JR c,j..LD y,b..i [h],A.ADD SP,ei A,[h].d HL,p+ea A,b...o z.....\
-    BIT k,z.RES k,z.SET k,z.\
-    d [w],SPLD p,w..JP c,w..LD [w],ALD A,[w]JP w....CALL c,wCALL w..";
-
-// A name out of names of four characters.
-fn name(names: &[u8], k: usize, at: usize, out: &mut [u8]) -> usize
-    requires { k * 4 + 4 ≤ length names.now }
-    ensures { Reaches (written (name_in names.now k) (cursor at out.old)) result out.new }
+// A name out of a row of names.
+fn name(names: &[&str], k: u8, writer: &mut Writer<'_>)
+    requires { k < length names.now }
+    ensures { Writes (get_or (map (λ n. n.now) names.now) k []) writer.old writer.new }
 {
-    let from = k * 4;
-    let to = from + 4;
-    writing::letters(&names[from..to], at, out)
+    writer.letters(names[usize::from(k)].as_bytes());
 }
 
 // A register or [HL].
-fn register(k: u8, at: usize, out: &mut [u8]) -> usize
+fn register(k: u8, writer: &mut Writer<'_>)
     requires { k < 8 }
-    ensures { Reaches (written (register_text k) (cursor at out.old)) result out.new }
+    ensures { Writes (register_text k) writer.old writer.new }
 {
-    name(b"B...C...D...E...H...L...[HL]A...", k as usize, at, out)
+    name(&["B", "C", "D", "E", "H", "L", "[HL]", "A"], k, writer);
 }
 
 // LD.
-fn ld(at: usize, out: &mut [u8]) -> usize
-    ensures { Reaches (written (ascii "LD") (cursor at out.old)) result out.new }
+fn ld(writer: &mut Writer<'_>)
+    ensures { Writes (ascii "LD") writer.old writer.new }
 {
-    writing::push(b'D', writing::push(b'L', at, out), out)
+    writer.push(b'L');
+    writer.push(b'D');
 }
 
 // LDH, which is LDIO in the old edition.
-fn high(edition: Edition, at: usize, out: &mut [u8]) -> usize
-    ensures { Reaches (written (high_text edition) (cursor at out.old)) result out.new }
+fn high(edition: Edition, writer: &mut Writer<'_>)
+    ensures { Writes (high_text edition) writer.old writer.new }
 {
-    let end = ld(at, out);
+    ld(writer);
     match edition {
-        Edition::Old => writing::push(b'O', writing::push(b'I', end, out), out),
-        Edition::New => writing::push(b'H', end, out),
+        Edition::Old => {
+            writer.push(b'I');
+            writer.push(b'O');
+        }
+        Edition::New => writer.push(b'H'),
     }
 }
 
 // How HL moves with a load by a pointer: I up, D down.
-fn step(p: usize, at: usize, out: &mut [u8]) -> usize
-    ensures { Reaches (written (step_text p) (cursor at out.old)) result out.new }
+fn step(p: u8, writer: &mut Writer<'_>)
+    ensures { Writes (step_text p) writer.old writer.new }
 {
     match p {
-        2 => writing::push(b'I', at, out),
-        3 => writing::push(b'D', at, out),
-        _ => at,
+        2 => writer.push(b'I'),
+        3 => writer.push(b'D'),
+        _ => (),
     }
 }
 
 // The old edition says it behind LD, and the new one behind the pointer's pair.
-fn load(edition: Edition, p: usize, at: usize, out: &mut [u8]) -> usize
-    ensures { Reaches (written (load_text edition p) (cursor at out.old)) result out.new }
+fn load(edition: Edition, p: u8, writer: &mut Writer<'_>)
+    ensures { Writes (load_text edition p) writer.old writer.new }
 {
-    let end = ld(at, out);
+    ld(writer);
     match edition {
-        Edition::Old => step(p, end, out),
-        Edition::New => end,
+        Edition::Old => step(p, writer),
+        Edition::New => (),
     }
 }
 
-fn pointer(edition: Edition, p: usize, at: usize, out: &mut [u8]) -> usize
+fn pointer(edition: Edition, p: u8, writer: &mut Writer<'_>)
     requires { p < 4 }
-    ensures { Reaches (written (pointer_text edition p) (cursor at out.old)) result out.new }
+    ensures { Writes (pointer_text edition p) writer.old writer.new }
 {
-    let end = name(b"BC..DE..HL..HL..", p, at, out);
+    name(&["BC", "DE", "HL", "HL"], p, writer);
     match edition {
-        Edition::Old => end,
-        Edition::New => step(p, end, out),
+        Edition::Old => (),
+        Edition::New => step(p, writer),
     }
 }
 
-// A mark of a name; any other character is itself.
-fn named(edition: Edition, op: u8, mark: u8, at: usize, out: &mut [u8]) -> usize
-    ensures { Reaches (written (named_text edition op mark) (cursor at out.old)) result out.new }
-{
-    let y = op / 8 % 8;
-    let p = (op / 16 % 4) as usize;
-    match mark {
-        b'a' => name(b"ADD.ADC.SUB.SBC.AND.XOR.OR..CP..", y as usize, at, out),
-        b'c' => name(b"NZ..Z...NC..C...", (op / 8 % 4) as usize, at, out),
-        b'd' => ld(at, out),
-        b'i' => high(edition, at, out),
-        b'k' => writing::push(glyphs::glyph(y), at, out),
-        b'l' => load(edition, p, at, out),
-        b'o' => name(b"RLC.RRC.RL..RR..SLA.SRA.SWAPSRL.", y as usize, at, out),
-        b'p' => name(b"BC..DE..HL..SP..", p, at, out),
-        b'q' => name(b"BC..DE..HL..AF..", p, at, out),
-        b't' => pointer(edition, p, at, out),
-        b'y' => register(y, at, out),
-        b'z' => register(op % 8, at, out),
-        _ => writing::push(mark, at, out),
+impl Operands {
+    // A mark of a name; any other character is itself.
+    fn named(self, mark: u8, writer: &mut Writer<'_>)
+        ensures { Writes (named_text self.edition self.op mark) writer.old writer.new }
+    {
+        let op = self.op;
+        let y = op / 8 % 8;
+        let p = op / 16 % 4;
+        match mark {
+            b'a' => name(
+                &["ADD", "ADC", "SUB", "SBC", "AND", "XOR", "OR", "CP"],
+                y,
+                writer,
+            ),
+            b'c' => name(&["NZ", "Z", "NC", "C"], op / 8 % 4, writer),
+            b'd' => ld(writer),
+            b'i' => high(self.edition, writer),
+            b'k' => writer.push(glyphs::glyph(y)),
+            b'l' => load(self.edition, p, writer),
+            b'o' => name(
+                &["RLC", "RRC", "RL", "RR", "SLA", "SRA", "SWAP", "SRL"],
+                y,
+                writer,
+            ),
+            b'p' => name(&["BC", "DE", "HL", "SP"], p, writer),
+            b'q' => name(&["BC", "DE", "HL", "AF"], p, writer),
+            b't' => pointer(self.edition, p, writer),
+            b'y' => register(y, writer),
+            b'z' => register(op % 8, writer),
+            _ => writer.push(mark),
+        }
     }
-}
 
-// A character of a form, which may be a mark.
-fn mark(o: Operands, m: u8, at: usize, out: &mut [u8]) -> usize
-    ensures { Reaches (written (mark_text o m) (cursor at out.old)) result out.new }
-{
-    let edition = o.edition;
-    match m {
-        b'.' => at,
-        b'b' => writing::hex_byte(o.n8, at, out),
-        b'e' => writing::signed(o.n8, at, out),
-        b'h' => writing::hex_word(words::word(0xFF, o.n8), at, out),
-        b'j' => writing::hex_word(words::offset(o.n8, o.next), at, out),
-        b'v' => writing::hex_byte(8 * (o.op / 8 % 8), at, out),
-        b'w' => writing::hex_word(o.n16, at, out),
-        _ => named(edition, o.op, m, at, out),
+    // A character of a form, which may be a mark.
+    fn mark(self, m: u8, writer: &mut Writer<'_>)
+        ensures { Writes (mark_text self m) writer.old writer.new }
+    {
+        match m {
+            b'.' => (),
+            b'b' => writer.hex_byte(self.n8),
+            b'e' => writer.signed(self.n8),
+            b'h' => writer.hex_word(words::word(0xFF, self.n8)),
+            b'j' => writer.hex_word(words::offset(self.n8, self.next)),
+            b'v' => writer.hex_byte(8 * (self.op / 8 % 8)),
+            b'w' => writer.hex_word(self.n16),
+            _ => self.named(m, writer),
+        }
     }
-}
 
-// Characters of a form.
-fn marks(o: Operands, form: &[u8], at: usize, out: &mut [u8]) -> usize
-    ensures { Reaches (written (marks_text o form.now) (cursor at out.old)) result out.new }
-{
-    let mut next = at;
-    let mut i = 0;
-    while i < form.len() {
-        next = mark(o, form[i], next, out);
-        i += 1;
+    // The characters of a form.
+    pub(crate) fn marks(self, form: &[u8], writer: &mut Writer<'_>)
+        ensures { Writes (marks_text self form.now) writer.old writer.new }
+    {
+        for m in form {
+            self.mark(*m, writer);
+        }
     }
-    next
-}
-
-// The spelling by a form of a table.
-pub(crate) fn spelling(table: &[u8], form: usize, o: Operands, at: usize, out: &mut [u8]) -> usize
-    requires { form * 8 + 8 ≤ length table.now }
-    ensures { Reaches (written (marks_text o (form_in form table.now)) (cursor at out.old)) result out.new }
-{
-    let from = form * 8;
-    let to = from + 8;
-    marks(o, &table[from..to], at, out)
 }

@@ -1,5 +1,8 @@
 // The form of an opcode, by the fields of the grid: x is its top two bits, y the next three, z the low three. The forms are numbered by
 // their place in the table.
+// Stays: `form_at` of the definition numbers them, and reckons with the numbers (29 + y, 38 + n8 / 64).
+#![tactic(auto, unfolding(crate::specs::Forms::forms))]
+
 ghost use Rattle.std.specs.Prelude.{◌≡◌, ◌<◌};
 ghost use Rattle.listing.specs.Forms.{first_form, x0_form, load_form, jump_form, call_form, x3_form, unprefixed_form, form_at, form_size};
 

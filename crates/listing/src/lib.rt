@@ -5,20 +5,21 @@ mod forms;
 mod kinds;
 mod lines;
 mod read;
-mod writing;
+mod table;
+pub mod writing;
 
-ghost use Rattle.std.specs.Prelude.{◌≡◌};
-ghost use Rattle.listing.specs.Answer.{Lists, edition_of, list_of};
+ghost use Rattle.std.specs.Prelude.{◌≤◌, length};
+ghost use Rattle.listing.specs.Answer.{Lists, list_of, numbered, told_list};
+ghost use Rattle.listing.specs.Forms.{line_by};
+ghost use Rattle.listing.specs.Lines.{line_text};
 
-// What is answered: a code, and the length of the text that was written.
-#[derive(Clone, Copy)]
-pub struct Listed {
-    pub code: u8,
-    pub length: usize,
-}
+use crate::lines::Lines;
+use crate::table::Table;
+use crate::writing::Writer;
+use arith::Refusal;
 
 // An edition of the instruction reference, whose spelling is used: 1 is the old one and 2 the new one.
-#[derive(Clone, Copy)]
+#[derive(Clone, Copy, PartialEq, Eq, Debug)]
 pub enum Edition {
     Old,
     New,
@@ -35,49 +36,42 @@ struct Operands {
     next: u16,
 }
 
-// What a line reads: its form, how many bytes it has, and its operands.
+// What a line reads: where it stands, its bytes, and the form and the operands that spell them; no line is longer than 26.
 #[derive(Clone, Copy)]
-struct Reading {
-    form: usize,
-    bytes: usize,
+struct Reading<'a> {
+    address: u16,
+    bytes: &'a [u8],
+    form: &'a [u8],
     operands: Operands,
-}
-
-// How far a line has come: the place in the output behind it, and how many bytes it has.
-#[derive(Clone, Copy)]
-struct Put {
-    at: usize,
-    bytes: usize,
-}
-
-// The length of a whole text, or that there is no room for it.
-#[derive(Clone, Copy)]
-enum Measured {
-    Fits(usize),
-    TooLong,
-}
-
-// The listing of a part whose first byte stands at an address, in the spelling of an edition. Refusals 11 for an edition number that
-// is neither 1 nor 2, then 10 where the output is too short, which is then unchanged.
-pub fn list(part: &[u8], first: u16, edition: u32, out: &mut [u8]) -> Listed
-    ensures { Lists (list_of edition first part.now out.old) result out.new }
-{
-    if (edition != 1) & (edition != 2) {
-        return Listed {
-            code: 11,
-            length: 0,
-        };
-    }
-    lines::list(&forms::FORMS, numbered(edition), part, first, out)
+    ghost short: { length (line_text (line_by address bytes.now form.now operands)) ≤ 26 },
 }
 
 // The edition of a number that has one.
-fn numbered(edition: u32) -> Edition
-    ensures { result ≡ edition_of edition }
-{
-    if edition == 1 {
-        Edition::Old
-    } else {
-        Edition::New
+impl TryFrom<u32> for Edition {
+    type Error = Refusal;
+
+    ghost use Rattle.std.specs.Prelude.{◌≡◌};
+
+    ghost try_from_gives = { λ number answer. answer ≡ numbered number };
+
+    fn try_from(number: u32) -> Result<Edition, Refusal> {
+        match number {
+            1 => Ok(Edition::Old),
+            2 => Ok(Edition::New),
+            _ => Err(Refusal::Edition),
+        }
     }
+}
+
+// The listing of a part whose first byte stands at an address, in the spelling of an edition, and its length. Refusals 11 for an
+// edition number that is neither 1 nor 2, then 10 where the output is too short, which is then unchanged.
+pub fn list(part: &[u8], first: u16, edition: u32, out: &mut [u8]) -> Result<usize, Refusal>
+    ensures { Lists (list_of edition first part.now out.old) (told_list result) out.new }
+{
+    let edition = Edition::try_from(edition)?;
+    let lines = Lines::new(Table::new(), edition, part, first);
+    let length = lines.measure(out.len())?;
+    let mut writer = Writer { out, at: 0 };
+    lines.write(&mut writer);
+    Ok(length)
 }

@@ -1,112 +1,147 @@
-// The lines of a part: one of them, the length of all, and all of them written, by a table of forms.
+// The lines of a part, one after the other: what each reads, the length of all, and all of them written.
 ghost use Rattle.std.specs.Prelude.{◌≡◌, ◌<◌, length};
-ghost use Rattle.listing.specs.Answer.{Lists, list_into};
-ghost use Rattle.listing.specs.Lines.{line_of, line_text, listing_of};
-ghost use Rattle.listing.specs.Written.{Reaches, Puts, cursor, written};
-ghost use Rattle.listing.specs.Forms.{Forms, measured_of};
+ghost use Rattle.std.specs.Iterator.{YieldsFirstBy, item_count};
+ghost use Rattle.listing.specs.Forms.{measured_of};
+ghost use Rattle.listing.specs.Left.{line_in, line_next, lines_left, text_left};
+ghost use Rattle.listing.specs.Lines.{line_text};
+ghost use Rattle.listing.specs.Written.{Writes};
 
-use crate::{Edition, Listed, Measured, Put, forms, read, writing};
-use arith::words;
+use crate::table::Table;
+use crate::writing::Writer;
+use crate::{Edition, Operands, Reading, kinds, read};
+use arith::{Refusal, words};
 
-const SPACE: u8 = 32;
+const SPACE: u8 = b' ';
 
-const NEWLINE: u8 = 10;
+const NEWLINE: u8 = b'\n';
 
-// The line that bytes from an address on begin with; there must be one.
-fn line(
-    table: &[u8],
+// What is left of a part: the bytes, the address of the first, and what spells them.
+#[derive(Clone, Copy)]
+pub(crate) struct Lines<'a> {
+    table: Table<'a>,
     edition: Edition,
-    bytes: &[u8],
+    rest: &'a [u8],
     address: u16,
-    at: usize,
-    out: &mut [u8],
-) -> Put
-    requires forms { Forms table.now }
-    requires bytes_nonzero { 0 < length bytes.now }
-    ensures { Puts (line_of edition address bytes.now) (cursor at out.old) result out.new }
-{
-    let taken = read::read(edition, bytes, address);
-    let size = taken.bytes;
-    let form = taken.form;
-    let operands = taken.operands;
-    let column = writing::push(SPACE, writing::word(address, at, out), out);
-    let space = writing::bytes(&bytes[..size], column, out);
-    let name = writing::push(SPACE, space, out);
-    let end = forms::spelling(table, form, operands, name, out);
-    Put {
-        at: writing::push(NEWLINE, end, out),
-        bytes: size,
+}
+
+impl Reading<'_> {
+    // Its text, by a writer.
+    fn write(&self, writer: &mut Writer<'_>)
+        ensures { Writes (line_text (line_in self.now)) writer.old writer.new }
+    {
+        writer.word(self.address);
+        writer.push(SPACE);
+        writer.bytes(self.bytes);
+        writer.push(SPACE);
+        self.operands.marks(self.form, writer);
+        writer.push(NEWLINE);
+    }
+
+    // How long it is, tried where there is room for any.
+    fn width(&self) -> usize
+        ensures { result ≡ length (line_text (line_in self.now)) }
+    {
+        let mut room = [0u8; 26];
+        let mut writer = Writer {
+            out: &mut room,
+            at: 0,
+        };
+        self.write(&mut writer);
+        writer.at
     }
 }
 
-// How long that line is, tried where there is room for any.
-fn width(table: &[u8], edition: Edition, bytes: &[u8], address: u16) -> Put
-    requires forms { Forms table.now }
-    requires bytes_nonzero { 0 < length bytes.now }
-    ensures { (result.at ≡ length (line_text (line_of edition address bytes.now))) × (result.bytes ≡ length (line_of edition address bytes.now).bytes) }
-{
-    let mut room = [0u8; 26];
-    line(table, edition, bytes, address, 0, &mut room)
-}
-
-// The length of the whole text, where there is room for it.
-fn measure(table: &[u8], edition: Edition, part: &[u8], first: u16, room: usize) -> Measured
-    requires { Forms table.now }
-    ensures { result ≡ measured_of (length (listing_of edition first part.now)) room }
-{
-    let mut address = first;
-    let mut from = 0;
-    let mut length = 0;
-    while from < part.len() {
-        let next = width(table, edition, &part[from..], address);
-        let wide = next.at;
-        if room - length < wide {
-            return Measured::TooLong;
+impl<'a> Lines<'a> {
+    pub(crate) fn new(table: Table<'a>, edition: Edition, part: &'a [u8], first: u16) -> Lines<'a>
+        ensures { result ≡ record { table = table.entry; edition = edition; rest = part.entry; address = first } }
+    {
+        Lines {
+            table,
+            edition,
+            rest: part,
+            address: first,
         }
-        length += wide;
-        address = words::further(next.bytes as u16, address);
-        from += next.bytes;
     }
-    Measured::Fits(length)
-}
 
-// The whole text, from the front of the output on.
-fn write(table: &[u8], edition: Edition, part: &[u8], first: u16, out: &mut [u8]) -> usize
-    requires { Forms table.now }
-    ensures { Reaches (written (listing_of edition first part.now) (cursor 0 out.old)) result out.new }
-{
-    let mut address = first;
-    let mut from = 0;
-    let mut at = 0;
-    while from < part.len() {
-        let next = line(table, edition, &part[from..], address, at, out);
-        at = next.at;
-        address = words::further(next.bytes as u16, address);
-        from += next.bytes;
-    }
-    at
-}
-
-// The listing, by a table of forms.
-pub(crate) fn list(
-    table: &[u8],
-    edition: Edition,
-    part: &[u8],
-    first: u16,
-    out: &mut [u8],
-) -> Listed
-    requires { Forms table.now }
-    ensures { Lists (list_into (listing_of edition first part.now) out.old) result out.new }
-{
-    let measured = measure(table, edition, part, first, out.len());
-    match measured {
-        Measured::Fits(length) => {
-            write(table, edition, part, first, out);
-            Listed { code: 0, length }
+    // What the line reads that the rest begins with; there must be one.
+    fn first(&self) -> Reading<'a>
+        requires { 0 < length self.now.rest.now }
+        ensures { line_in result ≡ line_next self.now }
+    {
+        let bytes = self.rest;
+        let op = read::byte_at(bytes, 0);
+        let n8 = read::byte_at(bytes, 1);
+        let form = kinds::form(op, n8);
+        let size = kinds::size(form);
+        if read::is_data(form, usize::from(size), bytes.len(), op, n8) {
+            return Reading {
+                address: self.address,
+                bytes: &bytes[..1],
+                form: self.table.form(kinds::DATA),
+                operands: Operands {
+                    edition: self.edition,
+                    op: 0,
+                    n8: op,
+                    n16: 0,
+                    next: 0,
+                },
+            };
         }
-        Measured::TooLong => Listed {
-            code: 10,
-            length: 0,
-        },
+        Reading {
+            address: self.address,
+            bytes: &bytes[..usize::from(size)],
+            form: self.table.form(form),
+            operands: Operands {
+                edition: self.edition,
+                op: read::fields(op, n8),
+                n8,
+                n16: words::word(read::byte_at(bytes, 2), n8),
+                next: words::further(u16::from(size), self.address),
+            },
+        }
+    }
+
+    // The length of the whole text, where there is room for it.
+    pub(crate) fn measure(self, room: usize) -> Result<usize, Refusal>
+        ensures { result ≡ measured_of (length (text_left self.entry)) room }
+    {
+        let mut length = 0;
+        for reading in self {
+            let wide = reading.width();
+            if room - length < wide {
+                return Err(Refusal::Room);
+            }
+            length += wide;
+        }
+        Ok(length)
+    }
+
+    // The whole text, by a writer.
+    pub(crate) fn write(self, writer: &mut Writer<'_>)
+        ensures { Writes (text_left self.entry) writer.old writer.new }
+    {
+        for reading in self {
+            reading.write(writer);
+        }
+    }
+}
+
+impl<'a> Iterator for Lines<'a> {
+    type Item = Reading<'a>;
+
+    ghost next_gives = { YieldsFirstBy line_in lines_left };
+
+    ghost remaining = { item_count lines_left };
+
+    fn next(&mut self) -> Option<Reading<'a>> {
+        if self.rest.is_empty() {
+            return None;
+        }
+        let reading = self.first();
+        let count = reading.bytes.len();
+        self.rest = &self.rest[count..];
+        // Stays: `as`, since at most 3 is known to the proof, and `try_from` would ask for an arm that is never taken.
+        self.address = words::further(count as u16, self.address);
+        Some(reading)
     }
 }

@@ -1,93 +1,89 @@
-// Writing to a slice, from a place on and while there is room; each function answers the place behind what it wrote.
+// Writing to an output, from a place on and while there is room.
+ghost use Rattle.std.specs.Prelude.{◌∷◌, []};
 ghost use Rattle.digits.specs.Numerals.{hex_text};
-ghost use Rattle.listing.specs.Forms.{letter_text};
-ghost use Rattle.listing.specs.Lines.{joined, bytes_text};
+ghost use Rattle.listing.specs.Lines.{bytes_text};
 ghost use Rattle.listing.specs.Spelling.{hex, signed_text};
-ghost use Rattle.listing.specs.Written.{Reaches, cursor, pushed, written};
+ghost use Rattle.listing.specs.Written.{Writes};
 
 use arith::words;
 use digits::glyphs;
 
-pub(crate) fn push(b: u8, at: usize, out: &mut [u8]) -> usize
-    ensures { Reaches (pushed b (cursor at out.old)) result out.new }
-{
-    if at < out.len() {
-        out[at] = b;
-        return at + 1;
+// An output, and the place in it that the next byte goes to.
+#[derive(Drop)]
+pub struct Writer<'a> {
+    pub out: &'a mut [u8],
+    pub at: usize,
+}
+
+impl Writer<'_> {
+    // A byte more; a full output stays as it is.
+    pub fn push(&mut self, b: u8)
+        ensures { Writes (b ∷ []) self.old self.new }
+    {
+        if self.at < self.out.len() {
+            self.out[self.at] = b;
+            self.at += 1;
+        }
     }
-    at
-}
 
-// A byte in two hexadecimal digits.
-pub(crate) fn byte(v: u8, at: usize, out: &mut [u8]) -> usize
-    ensures { Reaches (written (hex_text 2 v) (cursor at out.old)) result out.new }
-{
-    let low = push(glyphs::glyph(v / 16 % 16), at, out);
-    push(glyphs::glyph(v % 16), low, out)
-}
-
-// A word in four.
-pub(crate) fn word(v: u16, at: usize, out: &mut [u8]) -> usize
-    ensures { Reaches (written (hex_text 4 v) (cursor at out.old)) result out.new }
-{
-    let low = byte(words::high(v), at, out);
-    byte(words::low(v), low, out)
-}
-
-// Bytes, with nothing between them.
-pub(crate) fn bytes(part: &[u8], at: usize, out: &mut [u8]) -> usize
-    ensures { Reaches (written (bytes_text part.now) (cursor at out.old)) result out.new }
-{
-    let mut next = at;
-    let mut i = 0;
-    while i < part.len() {
-        next = byte(part[i], next, out);
-        i += 1;
+    // A byte in two hexadecimal digits.
+    pub(crate) fn byte(&mut self, v: u8)
+        ensures { Writes (hex_text 2 v) self.old self.new }
+    {
+        self.push(glyphs::glyph(v / 16 % 16));
+        self.push(glyphs::glyph(v % 16));
     }
-    next
-}
 
-// The letters of a name, without the points that fill it up.
-pub(crate) fn letters(name: &[u8], at: usize, out: &mut [u8]) -> usize
-    ensures { Reaches (written (joined letter_text name.now) (cursor at out.old)) result out.new }
-{
-    let mut next = at;
-    let mut i = 0;
-    while i < name.len() {
-        next = letter(name[i], next, out);
-        i += 1;
+    // A word in four.
+    pub(crate) fn word(&mut self, v: u16)
+        ensures { Writes (hex_text 4 v) self.old self.new }
+    {
+        self.byte(words::high(v));
+        self.byte(words::low(v));
     }
-    next
-}
 
-fn letter(c: u8, at: usize, out: &mut [u8]) -> usize
-    ensures { Reaches (written (letter_text c) (cursor at out.old)) result out.new }
-{
-    if c == b'.' { at } else { push(c, at, out) }
-}
-
-// A constant of a byte, and of a word.
-pub(crate) fn hex_byte(v: u8, at: usize, out: &mut [u8]) -> usize
-    ensures { Reaches (written (hex 2 v) (cursor at out.old)) result out.new }
-{
-    let digits = push(b'$', at, out);
-    byte(v, digits, out)
-}
-
-pub(crate) fn hex_word(v: u16, at: usize, out: &mut [u8]) -> usize
-    ensures { Reaches (written (hex 4 v) (cursor at out.old)) result out.new }
-{
-    let digits = push(b'$', at, out);
-    word(v, digits, out)
-}
-
-// A signed byte.
-pub(crate) fn signed(e: u8, at: usize, out: &mut [u8]) -> usize
-    ensures { Reaches (written (signed_text e) (cursor at out.old)) result out.new }
-{
-    if e < 0x80 {
-        return hex_byte(e, at, out);
+    // Bytes, with nothing between them.
+    pub(crate) fn bytes(&mut self, part: &[u8])
+        ensures { Writes (bytes_text part.now) self.old self.new }
+    {
+        for b in part {
+            self.byte(*b);
+        }
     }
-    let digits = push(b'-', at, out);
-    hex_byte(255 - e + 1, digits, out)
+
+    // The characters of a name.
+    pub(crate) fn letters(&mut self, name: &[u8])
+        ensures { Writes name.now self.old self.new }
+    {
+        for c in name {
+            self.push(*c);
+        }
+    }
+
+    // A constant of a byte, and of a word.
+    pub(crate) fn hex_byte(&mut self, v: u8)
+        ensures { Writes (hex 2 v) self.old self.new }
+    {
+        self.push(b'$');
+        self.byte(v);
+    }
+
+    pub(crate) fn hex_word(&mut self, v: u16)
+        ensures { Writes (hex 4 v) self.old self.new }
+    {
+        self.push(b'$');
+        self.word(v);
+    }
+
+    // A signed byte.
+    pub(crate) fn signed(&mut self, e: u8)
+        ensures { Writes (signed_text e) self.old self.new }
+    {
+        if e < 0x80 {
+            self.hex_byte(e);
+        } else {
+            self.push(b'-');
+            self.hex_byte(255 - e + 1);
+        }
+    }
 }

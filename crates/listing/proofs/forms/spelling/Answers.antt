@@ -1,8 +1,0 @@
--- `spelling` writes eight characters of the table.
-use Rattle.listing.specs.Forms.{form_in}
-use Rattle.listing.proofs.Texts.{span}
-use Rattle.listing.proofs.forms.spelling.Goals as goal
-
-pub returns : goal.returns
-unfolding form_in
-returns c = rw (span _ 8) at c.marks.ensures
