@@ -1,4 +1,4 @@
--- Integers as differences, and the totals that the code holds.
+-- Integers as differences, and totals.
 -- Assumes nothing.
 use Prim.Native.Nat.{ℕ, suc, ◌+◌, ◌*◌, ◌≤◌, ◌<◌}
 use mathlib.Core.Bool.{Bool, true, false, ◌||◌, not, or-false, or-true}
@@ -8,10 +8,8 @@ use native.Mathlib.Omega.{arith}
 use borrow.Author.Tests.{le-leb, lt-leb}
 use lib.Dec.{leb}
 use lib.IntN.{ℤ, pos, negsuc, neg_ℤ, ◌+ℤ◌, ◌-ℤ◌, +ℤ_idl, +ℤ_idr, +ℤ_assoc, +ℤ_comm, neg_ℤ-+ℤ, +ℤ-neg_ℤ_cancel}
-use Rattle.constants.specs.Answer.{in_range, found_if, signed}
-use Rattle.constants.specs.Sums.{total_of, turned_by, Adds, found_by}
-use Rattle.constants.specs.declared.Found.TheVariants.{Large, Above, Below}
-use Rattle.constants.specs.declared.Total.{Total}
+use Rattle.constants.specs.Answer.{Large, Above, Below, in_range, found_if, signed}
+use Rattle.constants.specs.Totals.{Total, total_of, turned_by, Adds, found_by}
 
 -- a number less another
 unfoldable pub difference : ℕ → ℕ → ℤ

@@ -6,7 +6,9 @@ use mathlib.Core.List.{List, [], ◌∷◌, ◌++◌, append_assoc, append-nil}
 use mathlib.Core.Path.{◌≡◌, refl, sym, ap, ◌∙◌}
 use lib.Dec.{eqb, lit≤}
 use Rattle.digits.specs.Ascii.{ascii}
-use Rattle.constants.specs.Constant.{Base, Decimal, Hexadecimal, Term, Number, Within, Constant, Plain, Negated, Plus, Minus, number_text, term_text, constant_text, is_decimal, is_digit, all_digits, is_number, right_term, right}
+use Rattle.constants.specs.Constant.{Term, Number, Within, Constant, Plain, Negated, Plus, Minus, number_text, term_text, constant_text, is_decimal, is_digit, all_digits, is_number, right_term, right}
+use Rattle.constants.specs.declared.Base.{Base}
+use Rattle.constants.specs.declared.Base.TheVariants.{Decimal, Hexadecimal}
 use Rattle.constants.specs.Reading.{Behind, Nothing, Sign, Joined, Less, put, State, Wants, Digits, Has, state_if, begun, wanted, closed, followed, step, finished, Formed, read_from, read_of}
 use Rattle.constants.specs.Sums.{NoDigit}
 use Rattle.constants.proofs.Steps.{both, decimal_from, digit_not}

@@ -11,8 +11,8 @@ use Rattle.constants.specs.Constant.{Term, Number, Within, Constant, Plain, Nega
 use Rattle.constants.specs.Reading.{Wants, Nothing, Read, NoConstant, Formed, read_of}
 use Rattle.constants.specs.Answer.{deepest, in_range, found_if, signed, found_in, found_of}
 use Rattle.constants.specs.Theorems.{Spells, Exact, OneWay, NoFormExactly, DeepExactly, LargeExactly, ValueExactly, nested, Sixteen, Seventeen}
-use Rattle.constants.specs.declared.Found.{Found}
-use Rattle.constants.specs.declared.Found.TheVariants.{NoForm, Deep, Large, Above, Below}
+use Rattle.constants.specs.Answer.{Found}
+use Rattle.constants.specs.Answer.{NoForm, Deep, Large, Above, Below}
 use Rattle.constants.proofs.Steps.{both}
 use Rattle.constants.proofs.Spelled.{read_spelled, begin_read}
 use Rattle.constants.proofs.Complete.{whole_read}

@@ -4,7 +4,10 @@ pub mod Worth
 pub mod Amounts
 pub mod Nesting
 pub mod Standing
+pub mod Ended
 pub mod Levels
+pub mod Places
+pub mod Small
 pub mod Terms
 pub mod Spelled
 pub mod Complete

@@ -8,7 +8,8 @@ use native.Mathlib.Omega.{arith}
 use borrow.Author.Tests.{leb-true, leb-false, ltb-true, ltb-false, lt-ltb, le-ltb}
 use lib.Dec.{eqb, leb, ltb, lit≤, eqb-suc-zero}
 use lib.ListN.{length}
-use Rattle.constants.specs.Constant.{Base, Term, Number, Within, Constant, nests, nests_term}
+use Rattle.constants.specs.Constant.{Term, Number, Within, Constant, nests, nests_term}
+use Rattle.constants.specs.declared.Base.{Base}
 use Rattle.constants.specs.Reading.{Behind, Nothing, Sign, Joined, Less, put, State, Wants, Digits, Has, Stuck, begun, closed, followed, ended, step, finished, Formed, read_from}
 use Rattle.constants.specs.Answer.{deepest}
 use Rattle.constants.specs.Forms.{open_if, open_after}

@@ -6,7 +6,9 @@ use mathlib.Core.Bool.{Bool, true, ◌&&◌}
 use mathlib.Core.List.{List, [], ◌∷◌, ◌++◌, append_assoc, append-nil}
 use mathlib.Core.Path.{◌≡◌, refl, sym, ◌∙◌}
 use Rattle.digits.specs.Ascii.{ascii}
-use Rattle.constants.specs.Constant.{Base, Decimal, Hexadecimal, Term, Number, Within, Constant, number_text, term_text, constant_text, is_digit, all_digits, is_number, right_term, right}
+use Rattle.constants.specs.Constant.{Term, Number, Within, Constant, number_text, term_text, constant_text, is_digit, all_digits, is_number, right_term, right}
+use Rattle.constants.specs.declared.Base.{Base}
+use Rattle.constants.specs.declared.Base.TheVariants.{Decimal, Hexadecimal}
 use Rattle.constants.specs.Reading.{Behind, Nothing, Sign, Joined, Less, put, State, Wants, Digits, Has, Stuck, begun, closed, followed, ended, step, finished, Formed, read_from}
 use Rattle.constants.proofs.Steps.{both, by_begun, by_wanted, by_followed, by_digit}
 use Rattle.constants.proofs.Worth.{all_more, no_constant}

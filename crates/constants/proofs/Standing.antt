@@ -6,13 +6,16 @@ use mathlib.Core.List.{List, [], ◌∷◌, ◌++◌}
 use mathlib.Core.Path.{◌≡◌, refl}
 use lib.Dec.{eqb, lit≤, eqb-suc-zero}
 use lib.ListN.{length}
-use Rattle.constants.specs.Constant.{Base, Decimal, Hexadecimal, Number, Constant, is_digit, nests}
+use Rattle.constants.specs.Constant.{Number, Constant, is_digit, nests}
+use Rattle.constants.specs.declared.Base.{Base}
+use Rattle.constants.specs.declared.Base.TheVariants.{Decimal, Hexadecimal}
 use Rattle.constants.specs.Reading.{Behind, Nothing, Sign, Joined, Less, put, State, Wants, Digits, Has, Stuck, state_if, begun, wanted, closed, followed, ended, step, Formed, finished}
 use Rattle.constants.specs.Answer.{deepest}
 use Rattle.constants.specs.Forms.{StandsAt, stand_if, begun_at, followed_at, stand_after, ends_at, form_if, form_in, form_by}
 use Rattle.constants.specs.declared.Stand.{Stand}
 use Rattle.constants.specs.declared.Stand.TheVariants.{Next, InHexadecimal, InDecimal, Nowhere}
-use Rattle.constants.specs.declared.Form.TheVariants.{Wrong, TooDeep, Right}
+use Rattle.std.specs.Prelude.{Ok, Err}
+use Rattle.arith.specs.declared.Refusal.TheVariants.{Form, Nesting}
 use Rattle.constants.proofs.Steps.{decimal_from, digit_not, by_begun, by_followed}
 use Rattle.constants.proofs.Nesting.{Tally, Tallies, wants_nests, has_nests, pile_nests, number_nests}
 
@@ -63,7 +66,7 @@ step_stands (Has pile x) stand c opened deep e t = rw e (followed_stands pile x 
 step_stands Stuck stand c opened deep e t = rw e
 
 -- at the end
-turned_about : (nesting deep : Bool) → nesting ≡ not deep → form_if deep TooDeep Right ≡ form_if nesting Right TooDeep
+turned_about : (nesting deep : Bool) → nesting ≡ not deep → form_if deep (Err Nesting) (Ok tt) ≡ form_if nesting (Ok tt) (Err Nesting)
 unfolding form_if
 turned_about nesting true e = rw e
 turned_about nesting false e = rw e
@@ -73,11 +76,11 @@ whole : (x : Constant) (stand : Stand) (opened : ℕ) (deep : Bool) → ends_at 
 unfolding Tallies has_nests pile_nests form_by form_in form_if
 whole x stand opened deep e t = rw (e, ← t.0) (turned_about (nests x deepest) deep t.1)
 
-none_open : (n opened : ℕ) (stand : Stand) (deep : Bool) → suc n ≡ opened → form_by stand opened deep ≡ Wrong
+none_open : (n opened : ℕ) (stand : Stand) (deep : Bool) → suc n ≡ opened → form_by stand opened deep ≡ Err Form
 unfolding form_by form_if
 none_open n opened stand deep e = rw (← e, eqb-suc-zero n, and-false (ends_at stand))
 
-no_end : (stand : Stand) (opened : ℕ) (deep : Bool) → ends_at stand ≡ false → form_by stand opened deep ≡ Wrong
+no_end : (stand : Stand) (opened : ℕ) (deep : Bool) → ends_at stand ≡ false → form_by stand opened deep ≡ Err Form
 unfolding form_by form_if
 no_end stand opened deep e = rw e
 

@@ -7,7 +7,9 @@ use mathlib.Core.Path.{◌≡◌, refl}
 use native.Mathlib.Omega.{arith}
 use borrow.Author.Tests.{eqb-true, ne_eqb, leb-true}
 use lib.Dec.{eqb, leb}
-use Rattle.constants.specs.Constant.{Base, Decimal, Hexadecimal, Constant, is_decimal, is_digit}
+use Rattle.constants.specs.Constant.{Constant, is_decimal, is_digit}
+use Rattle.constants.specs.declared.Base.{Base}
+use Rattle.constants.specs.declared.Base.TheVariants.{Decimal, Hexadecimal}
 use Rattle.constants.specs.Reading.{Behind, Nothing, Sign, Joined, Less, State, Wants, Digits, Stuck, state_if, begun, wanted, closed, followed, ended}
 
 pub both : (t u : Bool) → (t && u) ≡ true → (t ≡ true) × (u ≡ true)

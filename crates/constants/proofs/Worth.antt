@@ -1,16 +1,22 @@
 -- Numbers: one more digit at the end, and that the digits from a place on, as many as there are, are what the reading takes for a number.
 -- Assumes nothing.
-use Prim.Native.Nat.{ℕ, suc, ◌+◌, ◌*◌}
-use mathlib.Core.Bool.{true, false}
+use Rattle.std.proofs.Common.{cond}
+use Prim.Native.Nat.{ℕ, suc, ◌+◌, ◌*◌, ◌≤◌}
+use mathlib.Core.Bool.{Bool, true, false}
 use mathlib.Core.List.{List, [], ◌∷◌, ◌++◌, map, append_assoc, append-nil}
 use mathlib.Core.Path.{◌≡◌, refl, sym, ap, ◌∙◌}
-use native.Mathlib.Nat.{pow-zero, pow-suc, mul-one}
+use native.Mathlib.Nat.{pow-zero, pow-suc, mul-one, mul-le-mul_left}
+use native.Mathlib.Numerals.{one-add}
 use native.Mathlib.Omega.{arith}
-use lib.ListN.{length, length-append, length-map}
+use lib.Dec.{lit≤}
+use lib.ListN.{length, take, drop, length-append, length-map}
+use Rattle.std.proofs.lemmas.List.{take-append-drop}
 use Rattle.digits.specs.Digits.{worth_of}
-use Rattle.constants.specs.Constant.{Base, Decimal, Hexadecimal, Number, Constant, is_digit, all_digits, digit_of, base_of, worth}
+use Rattle.constants.specs.Constant.{Number, Constant, is_digit, all_digits, digit_of, base_of, worth}
+use Rattle.constants.specs.declared.Base.{Base}
+use Rattle.constants.specs.declared.Base.TheVariants.{Decimal, Hexadecimal}
 use Rattle.constants.specs.Reading.{Behind, put, State, Digits, Has, Stuck, state_if, step, ended, finished, NoConstant, Formed, read_from}
-use Rattle.constants.specs.Sums.{clipped, NoDigit}
+use Rattle.constants.specs.Sums.{digits_end, NoDigit, Spans}
 use Rattle.constants.proofs.Steps.{both}
 
 -- one more digit
@@ -29,17 +35,54 @@ worth_more base (d ∷ ds) c =
     rw (length-map (ds ++ (c ∷ [])) digit_of, length-map ds digit_of, length-append ds (c ∷ [])) (omega arith) in
     rw (worth_more base ds c, one, pow-suc) (omega arith)
 
--- a number above 65,535 stays above
-clipped_more : (base : Base) (n d : ℕ) → clipped (clipped n * base_of base + d) ≡ clipped (n * base_of base + d)
-unfolding base_of
-clipped_more Decimal n d = omega arith
-clipped_more Hexadecimal n d = omega arith
-
-pub worth_clipped : (base : Base) (digits : List ℕ) (c : ℕ)
-    → clipped (clipped (worth base digits) * base_of base + digit_of c) ≡ clipped (worth base (digits ++ (c ∷ [])))
+pub worth_digit : (base : Base) (digits : List ℕ) (c : ℕ)
+    → worth base (digits ++ (c ∷ [])) ≡ worth base digits * base_of base + digit_of c
 unfolding worth
-worth_clipped base digits c =
-    clipped_more base (worth base digits) (digit_of c) ∙ sym (ap clipped (worth_more (base_of base) digits c))
+worth_digit base digits c = worth_more (base_of base) digits c
+
+-- with more digits a number is no smaller
+grown : (n b d : ℕ) → 1 ≤ b → n ≤ n * b + d
+grown n b d h = let more : n * 1 ≤ n * b = mul-le-mul_left n h in omega arith
+
+some_base : (base : Base) → 1 ≤ base_of base
+unfolding base_of
+some_base Decimal = lit≤ tt
+some_base Hexadecimal = lit≤ tt
+
+pub worth_grows : (base : Base) (digits more : List ℕ) → worth base digits ≤ worth base (digits ++ more)
+worth_grows base digits [] = rw (append-nil digits) (omega arith)
+worth_grows base digits (c ∷ cs) =
+    let one : worth base digits ≤ worth base (digits ++ (c ∷ [])) =
+    rw (worth_digit base digits c) (grown (worth base digits) (base_of base) (digit_of c) (some_base base)) in
+    let all = worth_grows base (digits ++ (c ∷ [])) cs in
+    omega (arith, one, rw (append_assoc digits (c ∷ []) cs) at all)
+
+-- the digits in front, as many as there are
+module _ (base : Base) (c : ℕ) (cs : List ℕ) (n : ℕ) where
+  all_one : (t : Bool) → is_digit base c ≡ t → all_digits base (take n cs) ≡ true
+      → all_digits base (take (cond t (1 + n) 0) (c ∷ cs)) ≡ true
+  unfolding all_digits
+  all_one true e more = rw (one-add n, e) more
+  all_one false e more = refl
+
+  ends_one : (t : Bool) → is_digit base c ≡ t → NoDigit base (drop n cs) → NoDigit base (drop (cond t (1 + n) 0) (c ∷ cs))
+  unfolding NoDigit
+  ends_one true e more = rw (one-add n) more
+  ends_one false e more = e
+
+all_in : (base : Base) (text : List ℕ) → all_digits base (take (digits_end base text) text) ≡ true
+unfolding all_digits
+all_in base [] = refl
+all_in base (c ∷ cs) = all_one base c cs (digits_end base cs) _ refl (all_in base cs)
+
+ends_in : (base : Base) (text : List ℕ) → NoDigit base (drop (digits_end base text) text)
+unfolding NoDigit
+ends_in base [] = tt
+ends_in base (c ∷ cs) = ends_one base c cs (digits_end base cs) _ refl (ends_in base cs)
+
+pub digits_span : (base : Base) (text : List ℕ) → Spans base text (take (digits_end base text) text) (drop (digits_end base text) text)
+digits_span base text =
+    record { spans = sym (take-append-drop (digits_end base text) text); all = all_in base text; ends = ends_in base text }
 
 -- no constant begins so
 pub stuck : (text : List ℕ) → read_from Stuck text ≡ NoConstant

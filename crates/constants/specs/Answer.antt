@@ -1,12 +1,21 @@
 -- What is answered of a text: that it is no constant, that its parentheses are nested deeper than 16, that a number or the value is out
 -- of range, or its value. Document 02, M-103, in the order of its refusals.
 -- Assumes nothing.
-use Rattle.std.specs.Prelude.{ℕ, suc, Bool, true, false, ◌&&◌, not, List, ℤ, pos, negsuc}
+use Rattle.std.specs.Prelude.{ℕ, suc, Bool, true, false, ◌&&◌, not, List, ℤ, pos, negsuc, neg_ℤ, Result, Ok, Err}
 use Rattle.std.specs.Int.Signed.{le_z}
 use Rattle.constants.specs.Constant.{value_of, nests, small}
 use Rattle.constants.specs.Reading.{Read, NoConstant, Formed, read_of}
-use Rattle.constants.specs.declared.Found.{Found}
-use Rattle.constants.specs.declared.Found.TheVariants.{NoForm, Deep, Large, Above, Below}
+use Rattle.arith.specs.declared.Refusal.{Refusal}
+use Rattle.arith.specs.declared.Refusal.TheVariants.{Form, Nesting, Range}
+
+-- what a text is: no constant; one whose parentheses are nested too deep; one with a number or a value out of range; or one whose value
+-- is so far above 0 or below it
+pub data Found : Type 0 where
+  NoForm : Found
+  Deep : Found
+  Large : Found
+  Above : ℕ → Found
+  Below : ℕ → Found
 
 -- the most parentheses that are open at once
 abbrev pub deepest : ℕ
@@ -32,3 +41,14 @@ found_in (Formed c) =
 
 unfoldable pub found_of : List ℕ → Found
 found_of text = found_in (read_of text)
+
+-- the code's answer: the value, or the refusal
+unfoldable pub answer_in : Found → Result ℤ Refusal
+answer_in NoForm = Err Form
+answer_in Deep = Err Nesting
+answer_in Large = Err Range
+answer_in (Above n) = Ok (pos n)
+answer_in (Below n) = Ok (neg_ℤ (pos n))
+
+unfoldable pub answer_of : List ℕ → Result ℤ Refusal
+answer_of text = answer_in (found_of text)

@@ -4,14 +4,11 @@
 use Rattle.std.specs.Prelude.{ℕ, zero, suc, ◌-◌, Bool, true, false, ◌||◌, ◌&&◌, List, [], ◌∷◌, ◌++◌, map, leb, ℤ, pos, neg_ℤ, ◌+ℤ◌, ◌-ℤ◌}
 use Rattle.digits.specs.Ascii.{ascii}
 use Rattle.digits.specs.Digits.{worth_of}
+use Rattle.constants.specs.declared.Base.{Base}
+use Rattle.constants.specs.declared.Base.TheVariants.{Decimal, Hexadecimal}
 
--- a number is decimal, or hexadecimal after a $
-pub data Base : Type 0 where
-  Decimal : Base
-  Hexadecimal : Base
-
--- a term is a number, by the characters of its digits, or a constant in parentheses; a constant is a first term, perhaps after a minus,
--- and others joined to it by + or -
+-- a term is a number, decimal or hexadecimal after a $, by the characters of its digits, or a constant in parentheses; a constant is a first
+-- term, perhaps after a minus, and others joined to it by + or -
 mutual
   pub data Term : Type 0 where
     Number : Base → List ℕ → Term

@@ -1,13 +1,14 @@
 -- How the code judges the form of a text: by where the reading stands, how many parentheses are open, and whether there were too many.
 -- Assumes nothing.
-use Rattle.std.specs.Prelude.{ℕ, ◌+◌, ◌-◌, Bool, true, false, ◌||◌, ◌&&◌, not, [], ◌∷◌, ◌≡◌, eqb}
-use Rattle.constants.specs.Constant.{Decimal, Hexadecimal, is_decimal, is_digit, nests}
+use Rattle.std.specs.Prelude.{ℕ, ◌+◌, ◌-◌, Bool, true, false, ◌||◌, ◌&&◌, not, [], ◌∷◌, ◌≡◌, eqb, Result, Ok, Err}
+use Rattle.arith.specs.declared.Refusal.{Refusal}
+use Rattle.arith.specs.declared.Refusal.TheVariants.{Form, Nesting}
+use Rattle.constants.specs.Constant.{is_decimal, is_digit, nests}
 use Rattle.constants.specs.Reading.{Nothing, Sign, Joined, Less, State, Wants, Digits, Has, Stuck, Read, NoConstant, Formed}
 use Rattle.constants.specs.Answer.{deepest}
 use Rattle.constants.specs.declared.Stand.{Stand}
 use Rattle.constants.specs.declared.Stand.TheVariants.{Start, Next, Dollar, InHexadecimal, InDecimal, Closed, Nowhere}
-use Rattle.constants.specs.declared.Form.{Form}
-use Rattle.constants.specs.declared.Form.TheVariants.{Wrong, TooDeep, Right}
+use Rattle.constants.specs.declared.Base.TheVariants.{Decimal, Hexadecimal}
 
 -- where a state of the reading stands, as the code has it
 unfoldable pub StandsAt : State → Stand → Type 0
@@ -53,13 +54,13 @@ unfoldable pub open_after : ℕ → ℕ → ℕ
 open_after c opened = open_if (eqb c 40) (eqb c 41 && not (eqb opened 0)) opened
 
 -- the form of what is read
-unfoldable pub form_if : Bool → Form → Form → Form
+unfoldable pub form_if : Bool → Result (Unit {0}) Refusal → Result (Unit {0}) Refusal → Result (Unit {0}) Refusal
 form_if true f other = f
 form_if false f other = other
 
-unfoldable pub form_in : Read → Form
-form_in NoConstant = Wrong
-form_in (Formed c) = form_if (nests c deepest) Right TooDeep
+unfoldable pub form_in : Read → Result (Unit {0}) Refusal
+form_in NoConstant = Err Form
+form_in (Formed c) = form_if (nests c deepest) (Ok tt) (Err Nesting)
 
 -- and the same by where the reading ends
 unfoldable pub ends_at : Stand → Bool
@@ -71,5 +72,5 @@ ends_at InDecimal = true
 ends_at Closed = true
 ends_at Nowhere = false
 
-unfoldable pub form_by : Stand → ℕ → Bool → Form
-form_by stand opened deep = form_if (ends_at stand && eqb opened 0) (form_if deep TooDeep Right) Wrong
+unfoldable pub form_by : Stand → ℕ → Bool → Result (Unit {0}) Refusal
+form_by stand opened deep = form_if (ends_at stand && eqb opened 0) (form_if deep (Err Nesting) (Ok tt)) (Err Form)

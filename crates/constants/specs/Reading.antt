@@ -2,7 +2,9 @@
 -- was opened behind.
 -- Assumes nothing.
 use Rattle.std.specs.Prelude.{ℕ, Bool, true, false, List, [], ◌∷◌, ◌++◌, eqb}
-use Rattle.constants.specs.Constant.{Base, Decimal, Hexadecimal, Term, Number, Within, Constant, Plain, Negated, Plus, Minus, is_digit, is_decimal}
+use Rattle.constants.specs.declared.Base.{Base}
+use Rattle.constants.specs.declared.Base.TheVariants.{Decimal, Hexadecimal}
+use Rattle.constants.specs.Constant.{Term, Number, Within, Constant, Plain, Negated, Plus, Minus, is_digit, is_decimal}
 
 -- what a term is read behind: nothing yet, a minus, or a constant that a + or a - joins it to
 pub data Behind : Type 0 where

@@ -1,83 +1,99 @@
--- How the code finds the value of a constant: number by number, each added to a total or taken away, a call for each parenthesis.
+-- How the code finds the value of a constant: term by term, each added to a total or taken away, a call for each parenthesis.
 -- Assumes nothing.
-use Rattle.std.specs.Prelude.{ℕ, suc, ◌+◌, ◌*◌, ◌≤◌, ◌<◌, min, Bool, true, false, ◌||◌, ◌&&◌, not, List, [], ◌∷◌, ◌++◌, ◌≢◌, ◌≡◌, eqb, leb, length, get_or, drop, ℤ, pos, neg_ℤ, ◌+ℤ◌, ◌-ℤ◌}
-use Rattle.constants.specs.Constant.{Base, Decimal, Hexadecimal, Number, Constant, is_digit, all_digits, worth, value_of, nests, small}
+use Rattle.std.specs.Prelude.{ℕ, ◌+◌, ◌*◌, ◌≤◌, ◌<◌, ◌^◌, Bool, true, false, ◌||◌, not, List, [], ◌∷◌, ◌++◌, ◌≢◌, ◌≡◌, eqb, leb, length, get_or, drop, ℤ, pos, neg_ℤ, ◌+ℤ◌, ◌-ℤ◌, Result, Ok, Err}
+use Rattle.std.specs.List.{prefix_len}
+use Rattle.std.specs.Int.Signed.{mag}
+use lib.Signed.{◌≤ℤ◌}
+use Rattle.arith.specs.declared.Refusal.{Refusal}
+use Rattle.arith.specs.declared.Refusal.TheVariants.{Range}
+use Rattle.constants.specs.Constant.{Number, Constant, is_digit, all_digits, worth, value_of, nests, small}
 use Rattle.constants.specs.Reading.{Behind, Nothing, Wants, Has, begun, put, Formed, read_from}
-use Rattle.constants.specs.Answer.{deepest, in_range, found_if, signed}
-use Rattle.constants.specs.declared.Found.{Found}
-use Rattle.constants.specs.declared.Found.TheVariants.{Large}
-use Rattle.constants.specs.declared.Numeral.{Numeral}
-use Rattle.constants.specs.declared.Total.{Total}
-use Rattle.constants.specs.declared.Sum.{Sum}
+use Rattle.constants.specs.Answer.{deepest, in_range}
+use Rattle.constants.specs.declared.Base.{Base}
+use Rattle.constants.specs.declared.Counted.{Counted}
 
 -- numbers
 
-unfoldable pub base_if : Bool → Base
-base_if true = Hexadecimal
-base_if false = Decimal
+-- a number as the code holds it: none is above 65,535
+unfoldable pub number_if : Bool → ℕ → Result ℕ Refusal
+number_if true n = Ok n
+number_if false n = Err Range
 
--- a number as the code holds it: any above 65,535 is 65,536
-abbrev pub clipped : ℕ → ℕ
-clipped n = min 65536 n
+unfoldable pub number_in : ℕ → Result ℕ Refusal
+number_in n = number_if (leb n 65535) n
+
+-- how many digits of a base stand in front
+abbrev pub digits_end : Base → List ℕ → ℕ
+digits_end base text = prefix_len (λ c. is_digit base c) text
 
 -- no digit of a base stands in front
 unfoldable pub NoDigit : Base → List ℕ → Type 0
 NoDigit base [] = Unit {0}
 NoDigit base (c ∷ cs) = is_digit base c ≡ false
 
--- the digits from a place on, as many as there are
-pub record Spans (base : Base) (text : List ℕ) (from : ℕ) (r : Numeral) : Type 0 where
-  pub digits : List ℕ
-  pub spans : drop from text ≡ digits ++ drop r.at text
+-- the digits at the front of a text, as many as there are
+pub record Spans (base : Base) (text digits rest : List ℕ) : Type 0 where
+  pub spans : text ≡ digits ++ rest
   pub all : all_digits base digits ≡ true
-  pub ends : NoDigit base (drop r.at text)
-  pub place : r.at ≡ from + length digits
-  pub value : r.value ≡ clipped (worth base digits)
+  pub ends : NoDigit base rest
 
--- what is read goes on at a place with a number
-pub record NumberAt (text : List ℕ) (from : ℕ) : Type 0 where
+-- a number and what is left behind it, or that it is too large
+unfoldable pub HoldsNumber : ℕ → List ℕ → Result Counted Refusal → Type 0
+HoldsNumber n rest (Ok r) = (n ≤ 65535) × (r.value ≡ pos n) × (r.rest.now ≡ rest)
+HoldsNumber n rest (Err e) = (65535 < n) × (e ≡ Range)
+
+pub record Digits (base : Base) (text : List ℕ) (r : Result Counted Refusal) : Type 0 where
+  pub digits : List ℕ
+  pub rest : List ℕ
+  pub spans : Spans base text digits rest
+  pub holds : HoldsNumber (worth base digits) rest r
+
+-- what is read goes on with a number
+pub record NumberAt (text : List ℕ) : Type 0 where
   pub pile : List Behind
   pub behind : Behind
   pub whole : Constant
-  pub reads : read_from (begun pile behind (get_or text from 0)) (drop (suc from) text) ≡ Formed whole
-  pub within : from < length text
-  pub other : get_or text from 0 ≢ 40
+  pub reads : read_from (begun pile behind (get_or text 0 0)) (drop 1 text) ≡ Formed whole
+  pub some : 0 < length text
+  pub other : get_or text 0 0 ≢ 40
 
--- the number there, and where the reading goes on behind it
-pub record Counts (text : List ℕ) (from : ℕ) (r : Numeral) : Type 0 where
+-- the number there, and how the reading goes on behind it
+pub record Counts (text : List ℕ) (r : Result Counted Refusal) : Type 0 where
   pub base : Base
   pub digits : List ℕ
+  pub rest : List ℕ
   pub reads : (pile : List Behind) (b : Behind)
-      → read_from (begun pile b (get_or text from 0)) (drop (suc from) text) ≡ read_from (Has pile (put b (Number base digits))) (drop r.at text)
-  pub further : from < r.at
-  pub within : r.at ≤ length text
-  pub value : r.value ≡ clipped (worth base digits)
+      → read_from (begun pile b (get_or text 0 0)) (drop 1 text) ≡ read_from (Has pile (put b (Number base digits))) rest
+  pub shorter : length rest < length text
+  pub holds : HoldsNumber (worth base digits) rest r
 
 -- totals
 
-unfoldable pub total_of : Total → ℤ
-total_of t = pos (t.up * 65536 + t.low) -ℤ pos (t.down * 65536)
+-- a total with a term, which counts below 0 behind a minus
+unfoldable pub join_if : Bool → ℤ → ℤ → ℤ
+join_if true total term = total -ℤ term
+join_if false total term = total +ℤ term
 
--- an integer that counts above 0 or below it
-unfoldable pub turned_by : Bool → ℤ → ℤ
-turned_by false v = v
-turned_by true v = neg_ℤ v
+unfoldable pub joined : ℤ → ℕ → ℤ → ℤ
+joined total sign term = join_if (eqb sign 45) total term
 
--- a total holds what so many characters say, so that it has room
-pub record Holds (at : ℕ) (t : Total) : Type 0 where
-  pub low : t.low < 65536
-  pub up : t.up ≤ at
-  pub down : t.down ≤ at
+-- both fit in a half of the range
+pub record JoinFits (total : ℤ) (sign : ℕ) (term : ℤ) : Type 0 where
+  pub total_fits : mag total < 2 ^ 126
+  pub term_fits : mag term < 2 ^ 126
 
--- a total with a number, where it is at most 65,535
-pub record Adds (t : Total) (number : ℕ) (negative : Bool) (r : Total) : Type 0 where
-  pub holds : (at : ℕ) → Holds at t → Holds (suc at) r
-  pub large : r.large ≡ (t.large || not (leb number 65535))
-  pub total : number ≤ 65535 → total_of r ≡ total_of t +ℤ turned_by negative (pos number)
+-- so many characters make no larger a value
+pub record Bounded (count : ℕ) (value : ℤ) : Type 0 where
+  pub above : value ≤ℤ pos (65535 * count)
+  pub below : neg_ℤ (pos (65535 * count)) ≤ℤ value
 
--- what is answered of a total
-unfoldable pub found_by : Total → Found
-found_by t = found_if (not (not t.large && in_range (total_of t))) Large (signed (total_of t))
+-- a value, where it is in its range
+unfoldable pub sum_if : Bool → ℤ → Result ℤ Refusal
+sum_if true v = Ok v
+sum_if false v = Err Range
+
+unfoldable pub sum_in : ℤ → Result ℤ Refusal
+sum_in v = sum_if (in_range v) v
 
 -- sums
 
@@ -86,38 +102,36 @@ unfoldable pub goes_on : List ℕ → Bool
 goes_on [] = false
 goes_on (c ∷ cs) = not (eqb c 41)
 
--- a sign before a term
-unfoldable pub width_if : Bool → ℕ
-width_if true = 1
-width_if false = 0
+-- what stands behind a sign, where there is one
+unfoldable pub behind_if : Bool → ℕ → List ℕ → List ℕ
+behind_if true c cs = cs
+behind_if false c cs = c ∷ cs
 
-unfoldable pub width_of : ℕ → ℕ
-width_of c = width_if (eqb c 43 || eqb c 45)
+unfoldable pub behind_sign : List ℕ → List ℕ
+behind_sign [] = []
+behind_sign (c ∷ cs) = behind_if (eqb c 43 || eqb c 45) c cs
 
-unfoldable pub turned_if : Bool → Bool → Bool
-turned_if true negative = not negative
-turned_if false negative = negative
-
-unfoldable pub turned : ℕ → Bool → Bool
-turned c negative = turned_if (eqb c 45) negative
-
--- what is read goes on at a place with a constant, with so many parentheses left to open
-pub record Opens (text : List ℕ) (from depth : ℕ) (t : Total) : Type 0 where
+-- what is read goes on with a constant, with so many parentheses left to open
+pub record Opens (text : List ℕ) (depth : ℕ) : Type 0 where
   pub pile : List Behind
   pub whole : Constant
-  pub reads : read_from (Wants pile Nothing) (drop from text) ≡ Formed whole
+  pub reads : read_from (Wants pile Nothing) text ≡ Formed whole
   pub fits : nests whole deepest ≡ true
   pub room : length pile + depth ≡ deepest
-  pub within : from ≤ length text
-  pub holds : Holds from t
+  pub short : length text < 2 ^ 64
 
--- the constant there, and where the reading goes on behind it: at the end or at a closed parenthesis
-pub record Sums (text : List ℕ) (from : ℕ) (negative : Bool) (t : Total) (r : Sum) : Type 0 where
+-- the constant there, and how the reading goes on behind it: at the end or at a closed parenthesis
+pub record Summed (text : List ℕ) (value : ℤ) (rest : List ℕ) : Type 0 where
   pub sum : Constant
-  pub reads : (pile : List Behind) → read_from (Wants pile Nothing) (drop from text) ≡ read_from (Has pile sum) (drop r.at text)
-  pub ends : goes_on (drop r.at text) ≡ false
-  pub further : from ≤ r.at
-  pub within : r.at ≤ length text
-  pub holds : Holds r.at r.total
-  pub large : r.total.large ≡ (t.large || not (small sum))
-  pub total : small sum ≡ true → total_of r.total ≡ total_of t +ℤ turned_by negative (value_of sum)
+  pub reads : (pile : List Behind) → read_from (Wants pile Nothing) text ≡ read_from (Has pile sum) rest
+  pub ends : goes_on rest ≡ false
+  pub small : small sum ≡ true
+  pub is : value ≡ value_of sum
+  pub count : ℕ
+  pub counted : length rest + count ≡ length text
+  pub bounded : Bounded count value
+
+-- or a number in it is too large, and so every constant that the reading makes of it has one that is
+unfoldable pub Sums : List ℕ → Result Counted Refusal → Type 0
+Sums text (Ok r) = Summed text r.value r.rest.now
+Sums text (Err e) = (e ≡ Range) × ((pile : List Behind) (x : Constant) → read_from (Wants pile Nothing) text ≡ Formed x → small x ≡ false)

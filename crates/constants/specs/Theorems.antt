@@ -5,9 +5,7 @@ use Prim.Native.String.{String}
 use Rattle.digits.specs.Ascii.{ascii}
 use Rattle.constants.specs.Constant.{Constant, Plain, Within, constant_text, right, value_of, nests, small}
 use Rattle.constants.specs.Reading.{Formed, read_of}
-use Rattle.constants.specs.Answer.{deepest, in_range, signed, found_of}
-use Rattle.constants.specs.declared.Found.{Found}
-use Rattle.constants.specs.declared.Found.TheVariants.{NoForm, Deep, Large, Above, Below}
+use Rattle.constants.specs.Answer.{deepest, in_range, Found, NoForm, Deep, Large, Above, Below, signed, found_of}
 
 -- a text is that of a right constant
 pub record Spells (c : Constant) (text : List ℕ) : Type 0 where

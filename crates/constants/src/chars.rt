@@ -1,45 +1,36 @@
-// The characters of constants.
+// The digits of constants.
 ghost use Rattle.std.specs.Prelude.{◌≡◌};
-ghost use Rattle.constants.specs.Constant.{is_decimal, is_digit, digit_of, base_of};
-ghost use Rattle.constants.specs.Sums.{base_if};
+ghost use Rattle.constants.specs.Constant.{is_digit, digit_of, base_of};
 
-pub(crate) const DOLLAR: u8 = 36;
+use crate::Base;
 
-pub(crate) const OPEN: u8 = 40;
-
-pub(crate) const CLOSE: u8 = 41;
-
-pub(crate) const PLUS: u8 = 43;
-
-pub(crate) const MINUS: u8 = 45;
-
-pub(crate) fn is_decimal(c: u8) -> bool
-    ensures { result ≡ is_decimal c }
+#[tactic(auto, unfolding(crate::specs::Constant::is_digit, crate::specs::Constant::is_decimal))]
+pub(crate) fn is_digit(base: Base, c: u8) -> bool
+    ensures { result ≡ is_digit base c }
 {
-    (48 <= c) & (c <= 57)
-}
-
-pub(crate) fn is_digit(hexadecimal: bool, c: u8) -> bool
-    ensures { result ≡ is_digit (base_if hexadecimal) c }
-{
-    if hexadecimal {
-        return is_decimal(c) | ((65 <= c) & (c <= 70));
+    match base {
+        Base::Decimal => c.is_ascii_digit(),
+        Base::Hexadecimal => matches!(c, b'0'..=b'9' | b'A'..=b'F'),
     }
-    is_decimal(c)
 }
 
+#[tactic(auto, unfolding(crate::specs::Constant::digit_of, crate::specs::Constant::digit_if))]
 pub(crate) fn digit(c: u8) -> u8
     ensures { result ≡ digit_of c }
 {
-    if c <= 57 {
-        if c < 48 { 0 } else { c - 48 }
+    if c <= b'9' {
+        c.saturating_sub(b'0')
     } else {
-        c - 55
+        c - (b'A' - 10)
     }
 }
 
-pub(crate) fn base(hexadecimal: bool) -> u32
-    ensures { result ≡ base_of (base_if hexadecimal) }
+#[tactic(auto, unfolding(crate::specs::Constant::base_of))]
+pub(crate) fn base(base: Base) -> u32
+    ensures { result ≡ base_of base }
 {
-    if hexadecimal { 16 } else { 10 }
+    match base {
+        Base::Decimal => 10,
+        Base::Hexadecimal => 16,
+    }
 }

@@ -3,62 +3,56 @@ ghost use Rattle.std.specs.Prelude.{◌≡◌, ◌<◌};
 ghost use Rattle.constants.specs.Reading.{read_of};
 ghost use Rattle.constants.specs.Forms.{begun_at, followed_at, stand_after, open_after, ends_at, form_in, form_by};
 
-use crate::{Form, Stand, chars};
+use crate::{Base, Stand, chars};
+use arith::Refusal;
 
 // The parentheses that may be open at once.
 const DEEPEST: usize = 16;
 
 // Where a term begins with a character.
+#[tactic(auto, unfolding(crate::specs::Forms::begun_at, crate::specs::Forms::stand_if, crate::specs::Constant::is_decimal))]
 fn begun(c: u8) -> Stand
     ensures { result ≡ begun_at c }
 {
-    if c == chars::OPEN {
-        return Stand::Start;
+    match c {
+        b'(' => Stand::Start,
+        b'$' => Stand::Dollar,
+        b'0'..=b'9' => Stand::InDecimal,
+        _ => Stand::Nowhere,
     }
-    if c == chars::DOLLAR {
-        return Stand::Dollar;
-    }
-    if chars::is_decimal(c) {
-        return Stand::InDecimal;
-    }
-    Stand::Nowhere
 }
 
 // Where a character follows a term.
+#[tactic(auto, unfolding(crate::specs::Forms::followed_at, crate::specs::Forms::stand_if))]
 fn followed(c: u8, opened: usize) -> Stand
     ensures { result ≡ followed_at c opened }
 {
-    if (c == chars::PLUS) | (c == chars::MINUS) {
-        return Stand::Next;
+    match c {
+        b'+' | b'-' => Stand::Next,
+        b')' if opened != 0 => Stand::Closed,
+        _ => Stand::Nowhere,
     }
-    if (c == chars::CLOSE) & (opened != 0) {
-        return Stand::Closed;
-    }
-    Stand::Nowhere
 }
 
 // Where the next character leads, with so many parentheses open.
+#[tactic(auto, unfolding(crate::specs::Forms::stand_after, crate::specs::Forms::stand_if))]
 fn step(stand: Stand, c: u8, opened: usize) -> Stand
     ensures { result ≡ stand_after stand c opened }
 {
     match stand {
-        Stand::Start => if c == chars::MINUS {
-            Stand::Next
-        } else {
-            begun(c)
-        },
+        Stand::Start => if c == b'-' { Stand::Next } else { begun(c) },
         Stand::Next => begun(c),
-        Stand::Dollar => if chars::is_digit(true, c) {
+        Stand::Dollar => if chars::is_digit(Base::Hexadecimal, c) {
             Stand::InHexadecimal
         } else {
             Stand::Nowhere
         },
-        Stand::InHexadecimal => if chars::is_digit(true, c) {
+        Stand::InHexadecimal => if chars::is_digit(Base::Hexadecimal, c) {
             stand
         } else {
             followed(c, opened)
         },
-        Stand::InDecimal => if chars::is_decimal(c) {
+        Stand::InDecimal => if chars::is_digit(Base::Decimal, c) {
             stand
         } else {
             followed(c, opened)
@@ -69,58 +63,55 @@ fn step(stand: Stand, c: u8, opened: usize) -> Stand
 }
 
 // Where a constant can end.
+#[tactic(auto, unfolding(crate::specs::Forms::ends_at))]
 fn ends(stand: Stand) -> bool
     ensures { result ≡ ends_at stand }
 {
-    match stand {
-        Stand::Start => false,
-        Stand::Next => false,
-        Stand::Dollar => false,
-        Stand::InHexadecimal => true,
-        Stand::InDecimal => true,
-        Stand::Closed => true,
-        Stand::Nowhere => false,
-    }
+    matches!(
+        stand,
+        Stand::InHexadecimal | Stand::InDecimal | Stand::Closed
+    )
 }
 
 // The form where the text ends.
-fn ended(stand: Stand, opened: usize, deep: bool) -> Form
+#[tactic(auto, unfolding(crate::specs::Forms::form_by, crate::specs::Forms::form_if))]
+fn ended(stand: Stand, opened: usize, deep: bool) -> Result<(), Refusal>
     ensures { result ≡ form_by stand opened deep }
 {
-    if ends(stand) & (opened == 0) {
-        if deep { Form::TooDeep } else { Form::Right }
-    } else {
-        Form::Wrong
+    if !ends(stand) || opened != 0 {
+        return Err(Refusal::Form);
     }
+    if deep {
+        return Err(Refusal::Nesting);
+    }
+    Ok(())
 }
 
 // How many parentheses are open behind a character.
+#[tactic(auto, unfolding(crate::specs::Forms::open_after, crate::specs::Forms::open_if))]
 fn open_after(c: u8, opened: usize) -> usize
     requires { opened < 18446744073709551615 }
     ensures { result ≡ open_after c opened }
 {
-    if c == chars::OPEN {
-        return opened + 1;
+    match c {
+        b'(' => opened + 1,
+        b')' => opened.saturating_sub(1),
+        _ => opened,
     }
-    if (c == chars::CLOSE) & (opened != 0) {
-        return opened - 1;
-    }
-    opened
 }
 
-pub(crate) fn form(text: &[u8]) -> Form
+// Stays: `stand`, `opened` and `deep` apart, for each function takes others of them, as the definitions `stand_after`, `open_after` and
+// `form_by` do: a struct of the three is no plainer.
+pub(crate) fn form(text: &[u8]) -> Result<(), Refusal>
     ensures { result ≡ form_in (read_of text.now) }
 {
     let mut stand = Stand::Start;
     let mut opened = 0;
     let mut deep = false;
-    let mut at = 0;
-    while at < text.len() {
-        let c = text[at];
-        deep = deep | ((c == chars::OPEN) & (DEEPEST <= opened));
+    for &c in text {
+        deep = deep || (c == b'(' && DEEPEST <= opened);
         stand = step(stand, c, opened);
         opened = open_after(c, opened);
-        at += 1;
     }
     ended(stand, opened, deep)
 }

@@ -1,44 +1,57 @@
 // Numbers, decimal and hexadecimal.
 ghost use Rattle.std.specs.Prelude.{◌≡◌, ◌<◌, ◌≤◌, ◌+◌, ◌*◌};
-ghost use Rattle.constants.specs.Sums.{clipped, Spans, NumberAt, Counts, base_if};
+ghost use Rattle.constants.specs.Sums.{number_in, Digits, NumberAt, Counts, digits_end};
 
-use crate::{Numeral, chars};
+use crate::{Base, Counted, chars};
+use arith::Refusal;
 
-// A number with one more digit. Any above 65,535 is 65,536.
-fn with_digit(value: u32, base: u32, digit: u8) -> u32
-    requires { (value ≤ 65536) × (base ≤ 16) }
-    ensures { result ≡ clipped (value * base + digit) }
+// A number with one more digit; none is above 65,535.
+#[tactic(auto, unfolding(crate::specs::Sums::number_in, crate::specs::Sums::number_if))]
+fn with_digit(value: u32, base: u32, digit: u8) -> Result<u32, Refusal>
+    requires { (value ≤ 65535) × (base ≤ 16) }
+    ensures { result ≡ number_in (value * base + digit) }
 {
-    let more = value * base + (digit as u32);
-    if more < 65_536 { more } else { 65_536 }
-}
-
-// The digits from a place on, as many as there are.
-fn digits(text: &[u8], from: usize, hexadecimal: bool) -> Numeral
-    ensures { Spans (base_if hexadecimal) text.now from result }
-{
-    let base = chars::base(hexadecimal);
-    let mut value = 0;
-    let mut at = from;
-    while at < text.len() {
-        let c = text[at];
-        if !chars::is_digit(hexadecimal, c) {
-            break;
-        }
-        value = with_digit(value, base, chars::digit(c));
-        at += 1;
-    }
-    Numeral { at, value }
-}
-
-// The number from a place on, where there is one.
-pub(crate) fn number(text: &[u8], from: usize) -> Numeral
-    requires { NumberAt text.now from }
-    ensures { Counts text.now from result }
-{
-    if text[from] == chars::DOLLAR {
-        digits(text, from + 1, true)
+    let more = value * base + u32::from(digit);
+    if more < 65_536 {
+        Ok(more)
     } else {
-        digits(text, from, false)
+        Err(Refusal::Range)
+    }
+}
+
+// How many digits stand at the front.
+fn digits_end(text: &[u8], base: Base) -> usize
+    ensures { result ≡ digits_end base text.now }
+{
+    text.iter()
+        .take_while(|&&c| chars::is_digit(base, c))
+        .count()
+}
+
+// The digits at the front, as many as there are.
+fn digits(text: &[u8], base: Base) -> Result<Counted<'_>, Refusal>
+    ensures { Digits base text.now result }
+{
+    let (digits, rest) = text.split_at(digits_end(text, base));
+    let counted_by = chars::base(base);
+    let mut value = 0;
+    for &c in digits {
+        value = with_digit(value, counted_by, chars::digit(c))?;
+    }
+    Ok(Counted {
+        value: i128::from(value),
+        rest,
+    })
+}
+
+// The number at the front, where there is one.
+pub(crate) fn number(text: &[u8]) -> Result<Counted<'_>, Refusal>
+    requires { NumberAt text.now }
+    ensures { Counts text.now result }
+{
+    if text[0] == b'$' {
+        digits(&text[1..], Base::Hexadecimal)
+    } else {
+        digits(text, Base::Decimal)
     }
 }

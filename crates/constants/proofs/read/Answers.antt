@@ -1,80 +1,63 @@
 -- `read` answers by the form, and where that is right by the sum of the whole.
-use Prim.Native.Nat.{ℕ}
+use Prim.Native.Nat.{ℕ, ◌<◌, ◌^◌}
 use borrow.Author.Tests.{eqb-true, not-false}
-use mathlib.Core.Bool.{Bool, true, false, ◌&&◌, not}
+use mathlib.Core.Bool.{Bool, true, false, not}
 use mathlib.Core.List.{List, [], ◌∷◌}
-use mathlib.Core.Path.{◌≡◌, refl, sym, ap, ap₂, ◌∙◌}
+use mathlib.Core.Path.{◌≡◌, refl, sym, ap, ◌∙◌}
+use mir.Syntax.{w128}
 use native.Mathlib.Omega.{arith}
-use lib.Dec.{eqb, lit<}
-use lib.IntN.{ℤ, pos, +ℤ_idl}
-use lib.ListN.{drop}
+use lib.Dec.{eqb}
+use lib.IntN.{ℤ, pos, negsuc}
+use lib.ListN.{length}
+use Rattle.std.specs.Prelude.{Ok, Err}
+use Rattle.std.proofs.Common.{rules, SFits}
+use Rattle.std.proofs.lemmas.Int.{to_z-of_z}
+use Rattle.std.proofs.lemmas.Result.{err_from_is_err_and}
+use Rattle.arith.specs.declared.Refusal.{Refusal}
+use Rattle.arith.specs.declared.Refusal.TheVariants.{Form, Nesting, Range}
 use Rattle.constants.specs.Constant.{Constant, value_of, nests, small}
 use Rattle.constants.specs.Reading.{Has, state_if, step, followed, closed, finished, Read, NoConstant, Formed, read_from, read_of}
-use Rattle.constants.specs.Answer.{deepest, in_range, found_if, signed, found_in, found_of}
+use Rattle.constants.specs.Answer.{deepest, in_range, Deep, Large, found_if, signed, found_in, found_of, answer_in, answer_of}
 use Rattle.constants.specs.Forms.{form_if, form_in}
-use Rattle.constants.specs.Sums.{total_of, turned_by, found_by, goes_on, Opens, Sums}
-use Rattle.constants.specs.declared.Found.{Found}
-use Rattle.constants.specs.declared.Found.TheVariants.{NoForm, Deep, Large}
-use Rattle.constants.specs.declared.Form.TheVariants.{Wrong, TooDeep, Right}
-use Rattle.constants.specs.declared.Total.{Total}
-use Rattle.constants.specs.declared.Sum.{Sum}
+use Rattle.constants.specs.Sums.{sum_if, sum_in, goes_on, Opens, Summed, Sums}
 use Rattle.constants.proofs.Worth.{stuck, no_constant}
 use Rattle.constants.proofs.read.Goals as goal
 
--- forms are apart
-not_right : Wrong ≡ Right → ⊥
-not_right e = let apart : ◌≡◌ {A = ℕ} 0 1 = cc in omega arith
+-- what the form says of what is read
+nesting : (t : Bool) (e : Refusal) (v : ℤ) (s : Bool) → form_if t (Ok tt) (Err Nesting) ≡ Err e
+    → Err e ≡ answer_in (found_if (not t) Deep (found_if (not s) Large (signed v)))
+unfolding form_if found_if answer_in
+nesting true e v s f = cc
+nesting false e v s f = let same : e ≡ Nesting = cc in ap Err same
 
-not_deep : Wrong ≡ TooDeep → ⊥
-not_deep e = let apart : ◌≡◌ {A = ℕ} 0 1 = cc in omega arith
+refused : (r : Read) (e : Refusal) → form_in r ≡ Err e → Err e ≡ answer_in (found_in r)
+unfolding form_in found_in answer_in
+refused NoConstant e f = let same : e ≡ Form = cc in ap Err same
+refused (Formed x) e f = nesting (nests x deepest) e (value_of x) _ f
 
-not_both : Right ≡ TooDeep → ⊥
-not_both e = let apart : ◌≡◌ {A = ℕ} 0 1 = cc in omega arith
-
-is_deep : (t : Bool) → form_if t Right TooDeep ≡ TooDeep → t ≡ false
+shallow : (t : Bool) → form_if t (Ok tt) (Err Nesting) ≡ Ok tt → t ≡ true
 unfolding form_if
-is_deep true e = absurd (not_both e)
-is_deep false e = refl
+shallow true f = refl
+shallow false f = cc
 
-is_right : (t : Bool) → form_if t Right TooDeep ≡ Right → t ≡ true
-unfolding form_if
-is_right true e = refl
-is_right false e = absurd (not_both (sym e))
-
-is_some : (t : Bool) → form_if t Right TooDeep ≡ Wrong → ⊥
-unfolding form_if
-is_some true e = not_right (sym e)
-is_some false e = not_deep (sym e)
-
--- what each form says of what is read
-wrong : (r : Read) → form_in r ≡ Wrong → NoForm ≡ found_in r
-unfolding form_in found_in
-wrong NoConstant e = refl
-wrong (Formed x) e = absurd (is_some (nests x deepest) e)
-
-too_deep : (r : Read) → form_in r ≡ TooDeep → Deep ≡ found_in r
-unfolding form_in found_in found_if
-too_deep NoConstant e = absurd (not_deep e)
-too_deep (Formed x) e = rw (is_deep (nests x deepest) e)
-
-right_form : (r : Read) → form_in r ≡ Right → (x : Constant) × (r ≡ Formed x) × (nests x deepest ≡ true)
+right_form : (r : Read) → form_in r ≡ Ok tt → (x : Constant) × (r ≡ Formed x) × (nests x deepest ≡ true)
 unfolding form_in
-right_form NoConstant e = absurd (not_right e)
-right_form (Formed x) e = (x, refl, is_right (nests x deepest) e)
+right_form NoConstant e = cc
+right_form (Formed x) e = (x, refl, shallow (nests x deepest) e)
 
-opens : (text : List ℕ) (none : Total) → form_in (read_of text) ≡ Right → none.up ≡ 0 → none.down ≡ 0 → none.low ≡ 0 → Opens text 0 16 none
+opens : (text : List ℕ) → form_in (read_of text) ≡ Ok tt → length text < 2 ^ 64 → Opens text 16
 unfolding read_of
-opens text none e up down low =
+opens text e h =
     let right = right_form (read_of text) e in
-    record {
-      pile = [];
-      whole = right.0;
-      reads = right.1;
-      fits = right.2;
-      room = refl;
-      within = omega arith;
-      holds = record { low = rw low (lit< tt); up = omega arith; down = omega arith };
-    }
+    record { pile = []; whole = right.0; reads = right.1; fits = right.2; room = refl; short = h }
+
+-- a number is too large
+too_large : (text : List ℕ) → form_in (read_of text) ≡ Ok tt
+    → ((x : Constant) → read_of text ≡ Formed x → small x ≡ false) → Err Range ≡ answer_of text
+unfolding found_of answer_of found_in found_if answer_in
+too_large text e large =
+    let right = right_form (read_of text) e in
+    rw (right.1, right.2, large right.0 right.1)
 
 -- the sum of the whole is the whole
 all_read : (l : List ℕ) (x y : Constant) → goes_on l ≡ false → read_from (Has [] y) l ≡ Formed x → read_from (Has [] y) l ≡ Formed y
@@ -82,47 +65,45 @@ unfolding goes_on read_from finished step followed closed state_if
 all_read [] x y g e = refl
 all_read (c ∷ cs) x y g e = absurd (no_constant (sym (stuck cs) ∙ rw (eqb-true c 41 (not-false (eqb c 41) g)) at e))
 
-abbrev answer : Bool → ℤ → Found
-answer large v = found_if (not (not large && in_range v)) Large (signed v)
+signed_answer : (v : ℤ) → answer_in (signed v) ≡ Ok v
+unfolding signed answer_in
+signed_answer (pos n) = refl
+signed_answer (negsuc n) = refl
 
-same_found : (t : Total) (y : Constant) (s : Bool) → small y ≡ s → t.large ≡ not (small y) → (small y ≡ true → total_of t ≡ value_of y)
-    → found_by t ≡ found_if (not (small y && in_range (value_of y))) Large (signed (value_of y))
-unfolding found_by found_if
-same_found t y true e large total = ap₂ answer (large ∙ ap not e) (total e) ∙ rw e
-same_found t y false e large total = ap (λ (l : Bool). answer l (total_of t)) (large ∙ ap not e) ∙ rw e
+ranged : (t : Bool) (v : ℤ) → sum_if t v ≡ answer_in (found_if (not t) Large (signed v))
+unfolding sum_if found_if
+ranged true v = sym (signed_answer v)
+ranged false v = unfold answer_in in refl
 
-nothing_yet : (none : Total) → none.up ≡ 0 → none.down ≡ 0 → none.low ≡ 0 → total_of none ≡ pos 0
-unfolding total_of
-nothing_yet none up down low = rw (up, down, low)
-
-whole : (text : List ℕ) (none : Total) (r : Sum) → form_in (read_of text) ≡ Right → none.large ≡ false → total_of none ≡ pos 0
-    → Sums text 0 false none r → found_by r.total ≡ found_of text
-unfolding read_of found_of found_in found_if turned_by
-whole text none r e large zero sums =
+whole : (text rest : List ℕ) (v : ℤ) → form_in (read_of text) ≡ Ok tt → Summed text v rest → sum_in v ≡ answer_of text
+unfolding read_of found_of answer_of found_in found_if sum_in
+whole text rest v e sums =
     let right = right_form (read_of text) e in
     let read : read_of text ≡ Formed sums.sum =
-    sums.reads [] ∙ all_read (drop r.at text) right.0 sums.sum sums.ends (sym (sums.reads []) ∙ right.1) in
+    sums.reads [] ∙ all_read rest right.0 sums.sum sums.ends (sym (sums.reads []) ∙ right.1) in
     let one : Formed sums.sum ≡ Formed right.0 = sym read ∙ right.1 in
     let same : sums.sum ≡ right.0 = cc in
     let fits : nests sums.sum deepest ≡ true = rw same right.2 in
-    same_found r.total sums.sum _ refl (rw large at sums.large)
-    (λ few. sums.total few ∙ rw zero (+ℤ_idl (value_of sums.sum)))
-    ∙ sym (ap found_in read ∙ rw fits)
+    rw (read, fits, sums.small, sums.is) (ranged (in_range (value_of sums.sum)) (value_of sums.sum))
 
-pub sum-sum-requires : goal.sum-sum-requires
-sum-sum-requires c =
-    opens _ _ (sym c.form-form.ensures ∙ c.in-Right.is) refl refl refl
+pub returns-in_err-form : goal.returns-in_err-form
+unfolding answer_of found_of
+returns-in_err-form c =
+    let p = err_from_is_err_and c.from_residual.result c.from_residual.ensures.1 in
+    rw (p.1, p.2) (refused (read_of c.args.text.now) _ (sym c.in_err-form.ensures))
 
-pub returns-in-Wrong : goal.returns-in-Wrong
-unfolding found_of
-returns-in-Wrong c = wrong _ (sym c.form-form.ensures ∙ c.in-Wrong.is)
+pub sum-requires : goal.sum-requires
+sum-requires c = opens _ (sym c.in_ok-form.ensures) (omega arith)
 
-pub returns-in-TooDeep : goal.returns-in-TooDeep
-unfolding found_of
-returns-in-TooDeep c = too_deep _ (sym c.form-form.ensures ∙ c.in-TooDeep.is)
+pub returns-in_err-whole : goal.returns-in_err-whole
+unfolding Sums read_of
+returns-in_err-whole c =
+    let p = err_from_is_err_and c.from_residual-in_err-whole.result c.from_residual-in_err-whole.ensures.1 in
+    rw (p.1, p.2, c.in_err-whole.ensures.0) (too_large _ (sym c.in_ok-form.ensures) (c.in_err-whole.ensures.1 []))
 
-pub returns-in-Right : goal.returns-in-Right
-returns-in-Right c =
-    c.found.ensures
-    ∙ whole _ _ _ (sym c.form-form.ensures ∙ c.in-Right.is) refl (nothing_yet _ refl refl refl)
-    c.sum-sum.ensures
+pub returns : goal.returns
+unfolding Sums
+returns c =
+    let fits : SFits w128 c.in_ok-whole.whole.value = search rules in
+    let is = rw (to_z-of_z w128 c.in_ok-whole.whole.value fits) at c.in_range.ensures in
+    is ∙ whole _ _ _ (sym c.in_ok-form.ensures) c.in_ok-whole.ensures

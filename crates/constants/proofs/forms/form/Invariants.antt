@@ -1,9 +1,9 @@
 -- The loop's invariant: the reading has come to a state, at which the code stands, and what is left makes of it what the whole text is.
-use Prim.Native.Nat.{ℕ, ◌-◌, ◌≤◌}
+use Prim.Native.Nat.{ℕ, ◌≤◌}
 use mathlib.Core.Bool.{Bool}
 use mathlib.Core.List.{List}
 use mathlib.Core.Path.{◌≡◌}
-use lib.ListN.{length, drop}
+use lib.ListN.{drop}
 use Rattle.constants.specs.Reading.{State, read_from, read_of}
 use Rattle.constants.specs.Forms.{StandsAt}
 use Rattle.constants.specs.declared.Stand.{Stand}
@@ -16,8 +16,5 @@ pub record Reached (text : List ℕ) (stand : Stand) (opened : ℕ) (deep : Bool
   pub tally : Tally state opened deep
   pub reads : read_from state (drop at text) ≡ read_of text
 
-abbrev pub invariant-loop-at : goal.invariant-loop-at
-invariant-loop-at l = (l.at ≤ length l.text) × (l.opened ≤ l.at) × Reached l.text l.stand l.opened l.deep l.at
-
-abbrev pub decreases-loop-at : goal.decreases-loop-at
-decreases-loop-at l = length l.text - l.at
+abbrev pub invariant-loop-c : goal.invariant-loop-c
+invariant-loop-c l = record { few : l.opened ≤ l.c-index; reached : Reached l.text l.stand l.opened l.deep l.c-index }

@@ -1,22 +1,9 @@
--- The loop's invariant: what is taken, with what it is worth.
-use Prim.Native.Nat.{ℕ, ◌+◌, ◌-◌}
-use mathlib.Core.Bool.{true}
-use mathlib.Core.List.{List, ◌++◌}
+-- The loop's invariant: what the digits that are taken are worth.
+use Prim.Native.Nat.{◌≤◌}
 use mathlib.Core.Path.{◌≡◌}
-use lib.ListN.{length, drop}
-use Rattle.constants.specs.Constant.{Base, all_digits, worth}
-use Rattle.constants.specs.Sums.{base_if, clipped}
+use lib.ListN.{take}
+use Rattle.constants.specs.Constant.{worth}
 use Rattle.constants.proofs.numbers.digits.Given as goal
 
-pub record Taken (base : Base) (text : List ℕ) (from count at : ℕ) : Type 0 where
-  pub digits : List ℕ
-  pub spans : drop from text ≡ digits ++ drop at text
-  pub all : all_digits base digits ≡ true
-  pub place : at ≡ from + length digits
-  pub value : count ≡ clipped (worth base digits)
-
-abbrev pub invariant-loop-at : goal.invariant-loop-at
-invariant-loop-at l = Taken (base_if l.hexadecimal) l.text l.from l.value l.at
-
-abbrev pub decreases-loop-at : goal.decreases-loop-at
-decreases-loop-at l = length l.text - l.at
+abbrev pub invariant-loop-c : goal.invariant-loop-c
+invariant-loop-c l = record { few : l.value ≤ 65535; is : l.value ≡ worth l.fn.base (take l.c-index l.digits) }
