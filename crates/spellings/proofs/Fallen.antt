@@ -7,16 +7,13 @@ use mathlib.Core.Logic.{◌≢◌}
 use mathlib.Core.Path.{◌≡◌, refl, sym, ◌∙◌, ap}
 use native.Mathlib.Nat.{zero-add}
 use native.Mathlib.Omega.{arith}
-use lib.Dec.{eqb}
 use lib.ListN.{length, take, drop, length-append, length-drop, replicate, get_or-replicate}
 use lib.Seq.{take-append_seam, drop-append_seam, drop-length, drop-drop, drop-cons, take_all, take-length, length-take-le, take-append-add, paste, length-paste, take-paste}
-use Rattle.digits.specs.Ascii.{space}
 use Rattle.spellings.specs.Outline.{begins, ends, up_to, on_from, before_in, constant_in, behind_in, mark, marked, outline_in}
-use Rattle.spellings.specs.Rows.{row_by, slot_at, form_of}
-use Rattle.spellings.specs.Lookup.{bare_in, name_in, operand_in, alone_row, single_row, double_row, operands_row, named_row, lookup, Stands}
+use Rattle.spellings.specs.Rows.{row_by, slot_at, Form, form_of}
+use Rattle.spellings.specs.Lookup.{is_space, is_comma, bare_in, name_in, operand_in, alone_row, single_row, double_row, operands_row, named_row, lookup, Stands}
 use Rattle.spellings.specs.Exact.{is_constant}
 use Rattle.spellings.specs.declared.Slot.{Slot}
-use Rattle.spellings.specs.declared.Form.{Form}
 use Rattle.spellings.proofs.Outline.{rejoin, free_apart, Parts, Without, With, parts, mark_of, constant_length}
 use Rattle.spellings.proofs.Looked.{lookup_is}
 
@@ -61,13 +58,6 @@ constant_within line =
       ap length (rejoin begins line),
       cut_most ends (on_from begins line),
     )
-
--- a space and a comma
-abbrev is_space : ℕ → Bool
-is_space c = eqb c space
-
-abbrev is_comma : ℕ → Bool
-is_comma c = eqb c 44
 
 -- a name alone: there is no space
 module _ (text : List ℕ) (n : ℕ) (is : n ≡ 0 + length (up_to is_space text)) where
@@ -152,7 +142,7 @@ module _ (line : List ℕ) (from to : ℕ) (is_from : from ≡ length (before_in
   pub constant_some : from ≢ length line → from < to
   constant_some more = let some = constant_length (constant_in line) (like_constant more) in omega arith
 
-  outline_parts : from ≢ length line → outline_in line ≡ take from line ++ (mark ∷ drop to line)
+  pub outline_parts : from ≢ length line → outline_in line ≡ take from line ++ (mark ∷ drop to line)
   unfolding outline_in
   outline_parts more = rw (before_from, behind_to, mark_of (constant_in line) (like_constant more))
 
@@ -184,21 +174,6 @@ module _ (pre post : List ℕ) (fits : length pre + 1 + length post ≤ 10) wher
       ∙ ap (λ (l : List ℕ). l ++ take (length post) post) (take-append-add pre (mark ∷ drop (suc (length pre)) marks) 1)
       ∙ ap (λ (l : List ℕ). (pre ++ (mark ∷ [])) ++ l) (take-length post)
       ∙ append_assoc pre (mark ∷ []) post
-
--- which is the outline of the line
-module _ (line : List ℕ) (from to : ℕ) (is_from : from ≡ length (before_in line)) (is_to : to ≡ from + length (constant_in line)) (h : to ≤ length line)
-    (more : from ≢ length line)
-    (short : from + 1 + (length line - to) ≤ 10)
-  where
-    pub outline_pasted : (a b : List ℕ) → a ≡ paste (replicate 10 mark) 0 (take from line) (length (take from line))
-        → b ≡ paste a (from + 1) (take (length line - to) (drop to line)) (length (take (length line - to) (drop to line)))
-        → take (from + 1 + (length line - to)) b ≡ outline_in line
-    outline_pasted a b p q =
-        let pre : length (take from line) ≡ from = length-take-le from line (omega arith) in
-        let post : length (drop to line) ≡ length line - to = length-drop to line in
-        let all : take (length line - to) (drop to line) ≡ drop to line = take_all (length line - to) (drop to line) (omega arith) in
-        let together = pasted (take from line) (drop to line) (omega arith) in
-        rw (q, p, all, post, pre, outline_parts line from to is_from is_to more) (rw (post, pre) at together)
 
 -- where two searches stop a line's constant begins and ends, and so the line's form is known
 module _ (line : List ℕ) (from to : ℕ) where

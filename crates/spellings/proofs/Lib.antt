@@ -10,6 +10,7 @@ pub mod Determined
 pub mod Looked
 pub mod Slotted
 pub mod Bounds
-pub mod Passed
 pub mod Fallen
+pub mod Passed
+pub mod Named
 pub mod Unique

@@ -19,7 +19,7 @@ use Rattle.listing.specs.Spelling.{spellings, data_of}
 use Rattle.listing.specs.declared.Edition.TheVariants.{Old, New}
 use Rattle.spellings.specs.Outline.{up_to, on_from, shown_by, spelled_by, outline_of}
 use Rattle.spellings.specs.Rows.{Row, row_of, unprefixed, prefixed, table, same, no_row, first_in, row_by}
-use Rattle.spellings.specs.Lookup.{letters_of, place_in, bares, names, operands, bare_in, name_in, operand_in, alone_row, single_row, double_row, operands_row, named_row, lookup, lookups}
+use Rattle.spellings.specs.Lookup.{is_space, is_comma, letters_of, place_in, bares, names, operands, bare_in, name_in, operand_in, alone_row, single_row, double_row, operands_row, named_row, lookup, lookups}
 use Rattle.spellings.proofs.Outline.{both, stops, on_found, rejoin}
 use Rattle.spellings.proofs.Table.{first_row, every, every_append, every_at, same_true, row_told}
 use Rattle.spellings.proofs.Exact.{first_of}
@@ -199,12 +199,6 @@ double_has name a b some =
     ∙ e)
 
 -- a text falls apart at its space and its comma
-abbrev is_space : ℕ → Bool
-is_space c = eqb c space
-
-abbrev is_comma : ℕ → Bool
-is_comma c = eqb c 44
-
 operands_have : (name first second : List ℕ) → stops is_comma second ≡ true → operands_row (name_in name) first second ≢ no_row
     → HasRow (name ++ (space ∷ (first ++ second)))
 unfolding operands_row

@@ -1,12 +1,10 @@
 -- The bytes of a row and a number. Document 01, "The opcode grid".
 -- Assumes nothing.
-use Rattle.std.specs.Prelude.{ℕ, ◌+◌, ◌-◌, ◌*◌, List, [], ◌∷◌, ◌++◌, eqb, ltb, length}
+use Rattle.std.specs.Prelude.{ℕ, ◌+◌, ◌-◌, ◌*◌, List, [], ◌∷◌, ◌++◌, eqb, ltb}
 use Rattle.arith.specs.Words.{low_of, high_of}
-use Rattle.digits.specs.Digits.{byte_in}
 use Rattle.listing.specs.Forms.{text_if}
 use Rattle.spellings.specs.declared.Slot.{Slot}
 use Rattle.spellings.specs.declared.Slot.TheVariants.{Bare, N8, N16, High, E8, Target, U3, Vec}
-use Rattle.spellings.specs.declared.Code.{Code}
 
 -- the bytes of a row: the prefix too, and STOP's second byte; data has none of its own
 unfoldable pub row_bytes : ℕ → List ℕ
@@ -25,6 +23,13 @@ bytes_of row Target n = row_bytes row ++ (low_of n ∷ [])
 bytes_of row U3 n = row_bytes (row + 8 * n)
 bytes_of row Vec n = row_bytes (row + n)
 
--- bytes by value: how many, and the first three, 0 where there are fewer
-unfoldable pub coded : List ℕ → Code
-coded bytes = record { count = length bytes; first = byte_in 0 bytes; second = byte_in 1 bytes; third = byte_in 2 bytes }
+-- the row that the opcode of a row and a number has
+unfoldable pub counted : ℕ → Slot → ℕ → ℕ
+counted row Bare n = row
+counted row N8 n = row
+counted row N16 n = row
+counted row High n = row
+counted row E8 n = row
+counted row Target n = row
+counted row U3 n = row + 8 * n
+counted row Vec n = row + n

@@ -4,16 +4,8 @@
 use Rattle.std.specs.Prelude.{ℕ, zero, suc, ◌+◌, ◌-◌, ◌*◌, ◌≤◌, Bool, not, ◌||◌, ◌&&◌, List, [], ◌∷◌, ◌++◌, ◌≡◌, eqb, leb, ltb, length, take, drop}
 use Rattle.digits.specs.Ascii.{ascii, space}
 use Rattle.listing.specs.Forms.{number_if}
-use Rattle.spellings.specs.Outline.{begins, ends, up_to, on_from, before_in, constant_in}
+use Rattle.spellings.specs.Outline.{up_to, on_from, before_in, constant_in}
 use Rattle.spellings.specs.Rows.{same, no_row}
-use Rattle.spellings.specs.declared.Sought.{Sought}
-use Rattle.spellings.specs.declared.Sought.TheVariants.{Beginning, End, Character}
-
--- whether a character is sought
-unfoldable pub passes : Sought → ℕ → Bool
-passes Beginning c = begins c
-passes End c = ends c
-passes (Character d) c = eqb c d
 
 -- the letters of an entry, which points fill up
 unfoldable pub letters_of : List ℕ → List ℕ
@@ -138,16 +130,22 @@ double_row name a b =
     (number_if (ltb name 14) (moved_row (name - 12) a b) (number_if (ltb name 16) (high_row a b) (branch_row name a b)))))
 
 -- a text falls apart at its first space, and behind that at its first comma
+abbrev pub is_space : ℕ → Bool
+is_space c = eqb c space
+
+abbrev pub is_comma : ℕ → Bool
+is_comma c = eqb c 44
+
 unfoldable pub operands_row : ℕ → List ℕ → List ℕ → ℕ
 operands_row name first [] = single_row name (operand_in first)
 operands_row name first (c ∷ second) = double_row name (operand_in first) (operand_in second)
 
 unfoldable pub named_row : List ℕ → List ℕ → ℕ
 named_row name [] = alone_row (bare_in name)
-named_row name (c ∷ rest) = operands_row (name_in name) (up_to (λ c. eqb c 44) rest) (on_from (λ c. eqb c 44) rest)
+named_row name (c ∷ rest) = operands_row (name_in name) (up_to is_comma rest) (on_from is_comma rest)
 
 unfoldable pub lookup : List ℕ → ℕ
-lookup text = named_row (up_to (λ c. eqb c space) text) (on_from (λ c. eqb c space) text)
+lookup text = named_row (up_to is_space text) (on_from is_space text)
 
 -- a line's constant begins and ends at two places
 pub record Stands (line : List ℕ) (from to : ℕ) : Type 0 where

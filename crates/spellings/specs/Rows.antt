@@ -1,6 +1,6 @@
 -- The table of spellings read backwards, over both editions: the row that a line's outline has, and what its constant may be.
 -- Assumes nothing.
-use Rattle.std.specs.Prelude.{ℕ, ◌+◌, ◌-◌, Bool, true, false, ◌&&◌, List, [], ◌∷◌, ◌++◌, eqb, ltb, length}
+use Rattle.std.specs.Prelude.{ℕ, ◌+◌, ◌-◌, Bool, true, false, cond, ◌&&◌, List, [], ◌∷◌, ◌++◌, Option, Some, None, eqb, ltb, length}
 use Rattle.insn.proofs.Entries.{tabulate}
 use Rattle.listing.specs.Forms.{number_if}
 use Rattle.listing.specs.Spelling.{Kind, n8, n16, at_n16, at_high, e8, sp_plus_e8, target, u3, vec, Shown, Named, Of, Spelling, alone, changed_if, spelling_in, data_of}
@@ -9,7 +9,7 @@ use Rattle.listing.specs.declared.Edition.TheVariants.{Old, New}
 use Rattle.spellings.specs.Outline.{outline_of, outline_in, before_in, constant_in}
 use Rattle.spellings.specs.declared.Slot.{Slot}
 use Rattle.spellings.specs.declared.Slot.TheVariants.{Bare, N8, N16, High, E8, Target, U3, Vec}
-use Rattle.spellings.specs.declared.Form.{Form}
+use Rattle.spellings.specs.declared.Form.{Form as CodeForm}
 
 -- a row: below 256 an opcode, below 512 one behind $CB, and 512 is data; the byte and the word after it are 0 here
 pub record Row : Type 0 where
@@ -78,6 +78,12 @@ unfoldable pub slot_at : ℕ → Slot
 slot_at row = slot_in (spelling_at row).operands
 
 -- what a line is: its row, its slot, and where its constant begins and ends
+pub record Form : Type 0 where
+  pub row : ℕ
+  pub slot : Slot
+  pub from : ℕ
+  pub to : ℕ
+
 unfoldable pub form_of : List ℕ → Form
 form_of line =
     record {
@@ -86,3 +92,10 @@ form_of line =
       from = length (before_in line);
       to = length (before_in line) + length (constant_in line);
     }
+
+-- how the code has it: a number, unless it is the one that says that there is none
+abbrev pub unless : ℕ → ℕ → Option ℕ
+unless none k = cond (eqb k none) None (Some k)
+
+abbrev pub form_in : Form → CodeForm
+form_in f = record { row = unless no_row f.row; slot = f.slot; from = f.from; to = f.to }

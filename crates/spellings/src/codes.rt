@@ -1,68 +1,45 @@
-// Bytes by value: those of a row, and one more behind others.
-ghost use Rattle.std.specs.Prelude.{◌≡◌, List, [], ◌∷◌, ◌++◌, ℕ, ◌<◌};
-ghost use Rattle.spellings.specs.Bytes.{row_bytes, coded};
+// The bytes of a row.
+ghost use Rattle.std.specs.Prelude.{◌≡◌, ◌≤◌, length};
+ghost use Rattle.spellings.specs.Bytes.{row_bytes, counted};
 
-use crate::Code;
+use crate::Slot;
+use arrayvec::ArrayVec;
 
 const PREFIX: u8 = 0xCB;
 
-const STOP: u8 = 0x10;
+const STOP: u32 = 0x10;
 
-// The bytes of a row.
-pub(crate) fn row_bytes(row: u32) -> Code
-    ensures { result ≡ coded (row_bytes row) }
+// A row, with the number that its opcode holds, where it holds one.
+#[tactic(auto, unfolding(crate::specs::Bytes::counted))]
+pub(crate) fn counted(row: u16, slot: Slot, number: u16) -> u32
+    ensures { result ≡ counted row slot number }
 {
-    if row == STOP as u32 {
-        return Code {
-            count: 2,
-            first: STOP,
-            second: 0,
-            third: 0,
-        };
-    }
-    if row < 256 {
-        return Code {
-            count: 1,
-            first: row as u8,
-            second: 0,
-            third: 0,
-        };
-    }
-    if row < 512 {
-        return Code {
-            count: 2,
-            first: PREFIX,
-            second: (row - 256) as u8,
-            third: 0,
-        };
-    }
-    Code {
-        count: 0,
-        first: 0,
-        second: 0,
-        third: 0,
+    match slot {
+        Slot::U3 => u32::from(row) + 8 * u32::from(number),
+        Slot::Vec => u32::from(row) + u32::from(number),
+        _ => u32::from(row),
     }
 }
 
-// A byte behind the others.
-pub(crate) fn push(code: Code, b: u8) -> Code
-    requires { code.count < 4 }
-    ensures { (bytes : List ℕ) → code ≡ coded bytes → result ≡ coded (bytes ++ (b ∷ [])) }
+// The bytes of a row: the prefix too, and STOP's second byte.
+// Stays: `as` for the low bytes, which are below 256 by their arms; `u8::try_from` would have an arm that is never taken.
+#[tactic(auto, unfolding(crate::specs::Bytes::row_bytes, listing::specs::Forms::text_if))]
+pub(crate) fn row_bytes(row: u32) -> ArrayVec<u8, 4>
+    ensures value { result.items ≡ row_bytes row }
+    ensures few { length result.items ≤ 2 }
 {
-    let count = code.count;
-    let mut more = code;
-    more.count = count + 1;
-    if count == 0 {
-        more.first = b;
-        return more;
+    let mut code = ArrayVec::new();
+    match row {
+        STOP => {
+            code.push(STOP as u8);
+            code.push(0);
+        }
+        0..256 => code.push(row as u8),
+        256..512 => {
+            code.push(PREFIX);
+            code.push((row - 256) as u8);
+        }
+        _ => {}
     }
-    if count == 1 {
-        more.second = b;
-        return more;
-    }
-    if count == 2 {
-        more.third = b;
-        return more;
-    }
-    more
+    code
 }

@@ -1,81 +1,55 @@
-// Places in a text: the first of a kind of character, and the entry of a table that a text is.
-ghost use Rattle.std.specs.Prelude.{◌≡◌, ◌+◌, ◌*◌, ◌≤◌, length, drop};
-ghost use Rattle.spellings.specs.Outline.{begins, ends, up_to};
-ghost use Rattle.spellings.specs.Rows.{same};
-ghost use Rattle.spellings.specs.Lookup.{passes, letters_of, place_in};
-
-use crate::Sought;
+// Places in a text: where a constant begins and where one ends, the first of a certain character; and the place of a text in a table.
+ghost use Rattle.std.specs.Prelude.{◌≡◌, ◌<◌, ◌^◌, eqb, length, nat_eq, position};
+ghost use Rattle.std.specs.Cmp.Lexicographic.{pointwise};
+ghost use Rattle.spellings.specs.Outline.{begins, ends};
 
 // The characters that begin a constant, and those that end one.
+#[tactic(auto, unfolding(crate::specs::Outline::begins))]
 fn begins(c: u8) -> bool
     ensures { result ≡ begins c }
 {
-    (c == b'$') | ((c == b'(') | ((c == b'-') | ((b'0' <= c) & (c <= b'9'))))
+    matches!(c, b'$' | b'(' | b'-' | b'0'..=b'9')
 }
 
+#[tactic(auto, unfolding(crate::specs::Outline::ends))]
 fn ends(c: u8) -> bool
     ensures { result ≡ ends c }
 {
-    (c == b',') | (c == b']')
+    matches!(c, b',' | b']')
 }
 
-fn is_sought(sought: Sought, c: u8) -> bool
-    ensures { result ≡ passes sought c }
+// Where a constant begins, and where one ends.
+// Stays: a line for each test. What they share is std's `position`, and a chain's value is known to a proof from a function of its own.
+pub(crate) fn beginning(text: &[u8]) -> Option<usize>
+    ensures { result ≡ position begins text.now }
 {
-    match sought {
-        Sought::Beginning => begins(c),
-        Sought::End => ends(c),
-        Sought::Character(d) => c == d,
-    }
+    text.iter().position(|c| begins(*c))
 }
 
-// The first place from a place on where a character is sought, or the length.
-pub(crate) fn until(sought: Sought, text: &[u8], from: usize) -> usize
-    requires { from ≤ length text.now }
-    ensures { (result ≡ from + length (up_to (passes sought) (drop from text.now))) × (result ≤ length text.now) }
+pub(crate) fn end(text: &[u8]) -> Option<usize>
+    ensures { result ≡ position ends text.now }
 {
-    let mut i = from;
-    while i < text.len() {
-        if is_sought(sought, text[i]) {
-            return i;
-        }
-        i += 1;
-    }
-    i
+    text.iter().position(|c| ends(*c))
 }
 
-// Whether a text is the letters of an entry: behind them it has points alone, and no text has a point.
-fn is_entry(entry: &[u8], text: &[u8]) -> bool
-    ensures { result ≡ same (letters_of entry.now) text.now }
+// The first place of a character.
+pub(crate) fn character(text: &[u8], wanted: u8) -> Option<usize>
+    ensures { result ≡ position (λ c. eqb c wanted) text.now }
 {
-    let mut i = 0;
-    while i < entry.len() {
-        let c = entry[i];
-        if text.len() <= i {
-            return c == b'.';
-        }
-        if (c == b'.') | (c != text[i]) {
-            return false;
-        }
-        i += 1;
-    }
-    text.len() <= i
+    text.iter().position(|c| *c == wanted)
 }
 
-// The number of the first entry of a table, five characters each, that a text is, or their count.
-pub(crate) fn place(table: &[u8], count: u16, text: &[u8]) -> u16
-    requires { 5 * count ≤ length table.now }
-    ensures { result ≡ place_in count table.now text.now }
+// The place of a text in a table.
+fn entry(table: &[&str], text: &[u8]) -> Option<usize>
+    ensures { result ≡ position (λ e. pointwise nat_eq e.now text.now) table.now }
 {
-    let mut k = 0u16;
-    let mut from = 0;
-    while k < count {
-        let to = from + 5;
-        if is_entry(&table[from..to], text) {
-            return k;
-        }
-        from = to;
-        k += 1;
-    }
-    k
+    table.iter().position(|entry| entry.as_bytes() == text)
+}
+
+pub(crate) fn place(table: &[&str], text: &[u8]) -> Option<u16>
+    requires { length table.now < 2 ^ 16 }
+    ensures { result ≡ position (λ e. pointwise nat_eq e.now text.now) table.now }
+{
+    let k = entry(table, text)?;
+    u16::try_from(k).ok()
 }

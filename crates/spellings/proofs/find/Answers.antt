@@ -1,18 +1,24 @@
 -- `find` cuts the line at its constant, and looks its outline up.
-use Rattle.spellings.specs.Lookup.{passes}
-use Rattle.spellings.proofs.Fallen.{stands, form_is}
+use Prim.Native.Nat.{ℕ}
+use mathlib.Core.Path.{◌≡◌, ◌∙◌, ap}
+use Rattle.std.specs.Prelude.{Option}
+use Rattle.std.specs.Option.{unwrap_or}
+use Rattle.spellings.proofs.Named.{stands_at, slot_told, form_at}
 use Rattle.spellings.proofs.find.Goals as goal
 
+-- a place that was found, or the end
+or_end : (at end : ℕ) (found told : Option ℕ) → at ≡ unwrap_or found end → found ≡ told → at ≡ unwrap_or told end
+or_end at end found told e h = e ∙ ap (λ o. unwrap_or o end) h
+
 pub row-row-requires : goal.row-row-requires
-unfolding passes
 row-row-requires c =
-    stands c.args.line.now c.until-from.result c.until-to.result c.until-from.ensures.0 c.until-to.ensures.0
-    c.until-to.ensures.1
+    stands_at c.args.line.now _ _ (or_end _ _ _ _ c.unwrap_or-from.ensures c.beginning.ensures)
+    (or_end _ _ _ _ c.unwrap_or.ensures c.end.ensures)
 
 pub returns : goal.returns
-unfolding passes
 returns c =
-    let line = c.args.line.now in
-    form_is line c.until-from.result c.until-to.result c.row-row.result c.slot.result
-    (stands line c.until-from.result c.until-to.result c.until-from.ensures.0 c.until-to.ensures.0 c.until-to.ensures.1)
-    c.row-row.ensures c.slot.ensures
+    form_at c.args.line.now _ _ _ _
+    (stands_at c.args.line.now _ _ (or_end _ _ _ _ c.unwrap_or-from.ensures c.beginning.ensures)
+    (or_end _ _ _ _ c.unwrap_or.ensures c.end.ensures))
+    c.row-row.ensures
+    (slot_told _ _ _ c.row-row.ensures c.map_or.ensures)

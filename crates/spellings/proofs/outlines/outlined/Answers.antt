@@ -1,28 +1,16 @@
--- `outlined` looks its parts up.
-use mathlib.Core.Path.{sym}
-use borrow.Author.Rules.{rules}
-use lib.Seq.{length-take-le}
-use Rattle.spellings.specs.Lookup.{passes}
-use Rattle.spellings.proofs.Fallen.{alone_row_lem, single_row_lem, double_row_lem}
+-- `outlined` looks the name up.
+use mathlib.Core.Path.{◌∙◌}
+use Rattle.spellings.proofs.Named.{no_alone, alone_told, no_named, named_told}
 use Rattle.spellings.proofs.outlines.outlined.Goals as goal
 
-pub returns-then-space-text : goal.returns-then-space-text
-unfolding passes
-returns-then-space-text c =
-    rw (alone_row_lem c.args.text.now c.until-space.result c.until-space.ensures.0 c.if-space-text.true, ← c.bare.ensures)
-    c.alone.ensures
+pub returns-in_err-bare : goal.returns-in_err-bare
+returns-in_err-bare c = c.from_residual.ensures ∙ no_alone _ c.in_default.ensures c.in_err-bare.ensures
 
-pub slice_bounds-name-end : goal.slice_bounds-name-end
-slice_bounds-name-end c = sym (length-take-le _ _ c.until-space.ensures.1)
+pub returns-in_default : goal.returns-in_default
+returns-in_default c = c.alone.ensures ∙ alone_told _ c.in_default.ensures _ c.in_ok-bare.ensures
 
-pub returns-then-comma-text : goal.returns-then-comma-text
-unfolding passes
-returns-then-comma-text c =
-    rw (single_row_lem c.args.text.now c.until-space.result c.until-space.ensures.0 c.if-space-text.false c.until-comma.result c.until-comma.ensures.0 (search rules) c.if-comma-text.true, ← c.name-name.ensures, ← c.operand-a.ensures)
-    c.single.ensures
+pub returns-in_err-name : goal.returns-in_err-name
+returns-in_err-name c = c.from_residual-in_err-name.ensures ∙ no_named _ _ c.in-Some.ensures c.in_err-name.ensures
 
 pub returns : goal.returns
-unfolding passes
-returns c =
-    rw (double_row_lem c.args.text.now c.until-space.result c.until-space.ensures.0 c.if-space-text.false c.until-comma.result c.until-comma.ensures.0 c.until-comma.ensures.1 c.if-comma-text.false, ← c.name-name.ensures, ← c.operand-a.ensures, ← c.operand.ensures)
-    c.double.ensures
+returns c = c.operated.ensures ∙ named_told _ _ c.in-Some.ensures _ c.in_ok-name.ensures

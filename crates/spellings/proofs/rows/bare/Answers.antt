@@ -1,8 +1,12 @@
--- `bare` looks among the names that stand alone.
+-- `bare` looks among the texts that the entries are.
+use mathlib.Core.Path.{◌∙◌}
 use Rattle.digits.specs.Ascii.{ascii}
-use Rattle.spellings.specs.Lookup.{bares, bare_in}
+use Rattle.listing.specs.Forms.{text_if}
+use Rattle.spellings.specs.Outline.{up_to}
+use Rattle.spellings.specs.Lookup.{letters_of, bares, bare_in}
+use Rattle.spellings.proofs.Passed.{place_found}
 use Rattle.spellings.proofs.rows.bare.Goals as goal
 
 pub returns : goal.returns
-unfolding ascii bare_in bares
-returns c = c.place.ensures
+unfolding ascii text_if up_to letters_of bares bare_in
+returns c = c.place.ensures ∙ place_found c.args.text.now 15 bares

@@ -1,8 +1,12 @@
--- `name` looks among the names that operands follow.
+-- `name` looks among the texts that the entries are.
+use mathlib.Core.Path.{◌∙◌}
 use Rattle.digits.specs.Ascii.{ascii}
-use Rattle.spellings.specs.Lookup.{names, name_in}
+use Rattle.listing.specs.Forms.{text_if}
+use Rattle.spellings.specs.Outline.{up_to}
+use Rattle.spellings.specs.Lookup.{letters_of, names, name_in}
+use Rattle.spellings.proofs.Passed.{place_found}
 use Rattle.spellings.proofs.rows.name.Goals as goal
 
 pub returns : goal.returns
-unfolding ascii name_in names
-returns c = c.place.ensures
+unfolding ascii text_if up_to letters_of names name_in
+returns c = c.place.ensures ∙ place_found c.args.text.now 34 names
