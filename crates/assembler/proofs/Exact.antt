@@ -13,10 +13,12 @@ use lib.Signed.{le_z}
 use Rattle.arith.specs.Refusals.{◌when◌, code_of, unless_refused, order}
 use Rattle.arith.specs.Words.{further}
 use Rattle.digits.specs.Ascii.{ascii}
-use Rattle.constants.specs.Constant.{Base, Decimal, Hexadecimal, Term, Number, Within, Constant, Plain, Negated, Plus, Minus, number_text, term_text, constant_text, is_decimal, is_digit, all_digits, is_number, right_term, right, value_of, nests, small}
+use Rattle.constants.specs.declared.Base.{Base}
+use Rattle.constants.specs.declared.Base.TheVariants.{Decimal, Hexadecimal}
+use Rattle.constants.specs.Constant.{Term, Number, Within, Constant, Plain, Negated, Plus, Minus, number_text, term_text, constant_text, is_decimal, is_digit, all_digits, is_number, right_term, right, value_of, nests, small}
 use Rattle.constants.specs.Reading.{Read, NoConstant, Formed as Reads, read_of}
 use Rattle.constants.specs.Answer.{deepest, in_range, found_if, signed, found_in, found_of}
-use Rattle.constants.specs.declared.Found.TheVariants.{Above}
+use Rattle.constants.specs.Answer.{Above}
 use Rattle.constants.proofs.Steps.{either}
 use Rattle.constants.proofs.Complete.{whole_read}
 use Rattle.constants.proofs.Exact.{exact, one_way}
@@ -30,6 +32,7 @@ use Rattle.spellings.proofs.Exact.{row_spells, spelled_has, one_reading}
 use Rattle.assembler.specs.Ranges.{highest, lowest, number_in, reached}
 use Rattle.assembler.specs.Lines.{Fault, Bytes, standing, found_in as found_in_line, verdict_if, valued_by, verdict_by, verdict_of}
 use Rattle.assembler.specs.Exact.{Put, Nothing, This, put_text, is_bare, SuitsIf, OfForm, value_in, nests_in, small_in, inside, mod_word, number_at, line_refusals, form_verdict, Formless, Formed, NotFormless, OneForm}
+use Rattle.assembler.specs.Judging.{within}
 use Rattle.assembler.proofs.Back.{verdict_by_lem, none_append}
 
 -- the range of a slot, by the sign of a value
@@ -44,10 +47,6 @@ low_neg (suc low) n = sym (leb-suc-suc n low)
 and_true : (t : Bool) → (t && true) ≡ t
 and_true true = refl
 and_true false = refl
-
-abbrev within : Slot → ℤ → Bool
-within slot (pos n) = leb n (highest slot)
-within slot (negsuc n) = leb (suc n) (lowest slot)
 
 inside_is : (slot : Slot) (v : ℤ) → within slot v ≡ inside slot v
 unfolding inside

@@ -16,14 +16,11 @@ use Rattle.spellings.specs.Outline.{up_to, on_from}
 use Rattle.spellings.proofs.Fallen.{before_cut, behind_cut}
 use Rattle.assembler.specs.Lines.{Fault, verdict_of}
 use Rattle.assembler.specs.Text.{before, text_if, text_of, Refused, line_outcome, left_outcome, outcome_from}
-use Rattle.assembler.specs.Judging.{is_newline, head_verdict, outcome_on}
+use Rattle.assembler.specs.Judging.{is_newline, head_verdict, outcome_on, behind_line}
 
 -- the line, and what is left behind its newline
 abbrev pub line_in : List ℕ → List ℕ
 line_in text = up_to is_newline text
-
-abbrev pub behind_line : List ℕ → List ℕ
-behind_line text = drop 1 (on_from is_newline text)
 
 -- a text without a newline is all rest; one with a newline begins with its first line
 pub data Begins (text : List ℕ) : Type 0 where

@@ -5,6 +5,7 @@ pub mod First
 pub mod Short
 pub mod Outcomes
 pub mod Turns
+pub mod Places
 pub mod Listed
 pub mod Back
 pub mod Exact

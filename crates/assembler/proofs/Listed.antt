@@ -18,11 +18,12 @@ use Rattle.digits.specs.Digits.{worth_of, digits_of}
 use Rattle.digits.specs.Numerals.{glyph_of, hex_text, width_if, width_of, decimal_text}
 use Rattle.digits.proofs.Digits.{Below as AllBelow, below_rest, digits_below, worth_digits}
 use Rattle.insn.proofs.Entries.{agree}
-use Rattle.constants.specs.Constant.{Hexadecimal, Number, Plain, Negated, is_decimal, is_digit, all_digits, is_number, digit_if, digit_of, base_of, worth, number_text, right, nests, small, value_of}
+use Rattle.constants.specs.declared.Base.TheVariants.{Hexadecimal}
+use Rattle.constants.specs.Constant.{Number, Plain, Negated, is_decimal, is_digit, all_digits, is_number, digit_if, digit_of, base_of, worth, number_text, right, nests, small, value_of}
 use Rattle.constants.specs.Constant as constants
 use Rattle.constants.specs.Reading.{read_of, read_from, step, wanted, begun, state_if, ended, followed, finished, put}
 use Rattle.constants.specs.Answer.{in_range, found_if, signed, found_in, found_of}
-use Rattle.constants.specs.declared.Found.TheVariants.{Above, Below}
+use Rattle.constants.specs.Answer.{Above, Below}
 use Rattle.constants.proofs.Complete.{whole_read}
 use Rattle.listing.specs.Spelling.{Kind, n8, n16, at_n16, at_high, e8, sp_plus_e8, target, u3, vec, hex, signed_if, signed_text}
 use Rattle.listing.specs.Spelling as listing

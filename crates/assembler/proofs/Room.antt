@@ -13,8 +13,8 @@ use Rattle.arith.specs.Words.{further}
 use Rattle.digits.specs.Ascii.{ascii, newline}
 use Rattle.insn.specs.Grid.{grid}
 use Rattle.constants.specs.Answer.{found_if}
-use Rattle.constants.specs.declared.Found.{Found}
-use Rattle.constants.specs.declared.Found.TheVariants.{NoForm, Deep, Large, Above, Below}
+use Rattle.constants.specs.Answer.{Found}
+use Rattle.constants.specs.Answer.{NoForm, Deep, Large, Above, Below}
 use Rattle.listing.specs.Spelling.{spellings}
 use Rattle.spellings.specs.Outline.{before_in, constant_in, behind_in, marked, outline_in, shown_by, spelled_by, outline_of}
 use Rattle.spellings.specs.Rows.{unprefixed, prefixed, table, row_by, no_row, same}

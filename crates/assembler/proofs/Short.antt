@@ -20,8 +20,8 @@ use Rattle.spellings.specs.declared.Slot.{Slot}
 use Rattle.spellings.specs.declared.Slot.TheVariants.{Bare, N8, N16, High, E8, Target, U3, Vec}
 use Rattle.assembler.specs.Lines.{Verdict, Fault, Bytes, verdict_if, valued_by, verdict_by, found_in, verdict_of}
 use Rattle.assembler.specs.Judging.{head_verdict}
-use Rattle.constants.specs.declared.Found.{Found}
-use Rattle.constants.specs.declared.Found.TheVariants.{NoForm, Deep, Large, Above, Below}
+use Rattle.constants.specs.Answer.{Found}
+use Rattle.constants.specs.Answer.{NoForm, Deep, Large, Above, Below}
 
 -- every row's number is at most 513
 abbrev below : List Row → Bool

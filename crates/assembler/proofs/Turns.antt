@@ -1,98 +1,55 @@
--- A turn of the loops over a text: the line that begins at a place is at fault, or it has its bytes and its newline, and what is left
--- stands behind that.
+-- A turn of the loops over a text: its first line is at fault, or it has its bytes, and what is left stands behind it.
 -- Assumes nothing.
-use Prim.Native.Nat.{ℕ, ◌+◌, ◌-◌, ◌≤◌, ◌<◌}
-use mathlib.Core.Bool.{Bool, true, false}
-use mathlib.Core.List.{List}
-use mathlib.Core.Path.{◌≡◌, refl, sym, ◌∙◌, ap}
+use Prim.Native.Nat.{ℕ, ◌-◌, ◌≤◌, ◌<◌}
+use mathlib.Core.List.{List, [], ◌∷◌, ◌++◌, append_assoc}
+use mathlib.Core.Path.{◌≡◌, refl, ap, ◌∙◌}
 use native.Mathlib.Omega.{arith}
-use borrow.Author.Tests.{lt-ltb, le-ltb, ltb-true, ltb-false}
-use lib.Dec.{ltb}
-use lib.ListN.{length, drop, length-drop}
-use lib.Seq.{drop-drop}
-use Rattle.arith.specs.Words.{further}
-use Rattle.spellings.specs.Bytes.{coded}
-use Rattle.spellings.specs.declared.Code.{Code}
-use Rattle.assembler.specs.Lines.{Verdict, Fault, Bytes}
-use Rattle.assembler.specs.Text.{text_of, Refused, prepended, outcome_if, line_outcome}
-use Rattle.assembler.specs.Judging.{judged_of, head_verdict, outcome_on}
-use Rattle.assembler.specs.declared.Judged.{Judged}
-use Rattle.assembler.specs.declared.Judged.TheVariants.{Faulty, Takes}
-use Rattle.assembler.proofs.First.{line_in, behind_line, behind_dropped, head_cut, outcome_first}
-use Rattle.assembler.proofs.Short.{verdict_short}
+use borrow.Author.Tests.{lt-ltb, le-ltb}
+use lib.ListN.{length}
+use Rattle.arith.specs.Numbers.{number_of}
+use Rattle.assembler.specs.Text.{text_of, Outcome, Refused, Done, prepended, outcome_if, line_outcome, left_outcome, outcome_from}
+use Rattle.assembler.specs.Judging.{outcome_on, TakesLine, FaultsLine}
+use Rattle.assembler.specs.declared.Fault as code
+use Rattle.assembler.specs.declared.texts.Left.{Left}
+use Rattle.assembler.proofs.First.{outcome_first}
 
--- what is judged tells the verdict
-apart : {n : ℕ} {code : Code} → Faulty n ≡ Takes code → ⊥
-apart e = let z : ◌≡◌ {A = ℕ} 0 1 = cc in omega arith
+-- what comes of what is left
+abbrev pub outcome_left : Left → ℕ → Outcome
+outcome_left s room = outcome_on s.text.now s.address s.line room
 
-pub at_fault : (v : Verdict) (judged : Judged) (n : ℕ) → judged ≡ judged_of v → judged ≡ Faulty n → v ≡ Fault n
-unfolding judged_of
-at_fault (Fault m) judged n is told = let same : m ≡ n = (let e = sym is ∙ told in cc) in ap Fault same
-at_fault (Bytes bytes) judged n is told = absurd (apart (sym told ∙ is))
-
--- a line that has bytes, held by value
-pub record Taken (v : Verdict) (code : Code) : Type 0 where
-  pub bytes : List ℕ
-  pub has : v ≡ Bytes bytes
-  pub held : code ≡ coded bytes
-
-pub takes : (v : Verdict) (judged : Judged) (code : Code) → judged ≡ judged_of v → judged ≡ Takes code → Taken v code
-unfolding judged_of
-takes (Fault m) judged code is told = absurd (apart (sym is ∙ told))
-takes (Bytes bytes) judged code is told = record { bytes = bytes; has = refl; held = (let e = sym is ∙ told in cc) }
-
-module _ (text : List ℕ) (from end a : ℕ) (here : from < length text) (is : end ≡ from + length (line_in (drop from text))) where
-  abbrev pub verdict_here : Verdict
-  verdict_here = head_verdict a (text_of (drop from text)).lines
-
-  some : 0 < length (drop from text)
-  some = let left = length-drop from text in omega (arith, left)
-
-  behind : drop (end + 1) text ≡ behind_line (drop from text)
-  behind =
-      let next : end + 1 ≡ from + (length (line_in (drop from text)) + 1) = omega (arith, is) in
-      rw next (sym (drop-drop (length (line_in (drop from text)) + 1) from text) ∙ behind_dropped (drop from text))
-
-  -- what comes of what is left
-  pub turn : (line room : ℕ)
-      → outcome_on (drop from text) a line room
-      ≡ line_outcome line room verdict_here (λ k. outcome_on (drop (end + 1) text) (further k a) (line + 1) (room - k))
-  turn line room = rw behind (outcome_first (drop from text) a line room some)
-
-  -- a line that has bytes has its newline, and few of them
-  module _ (code : Code) (t : Taken verdict_here code) where
-    pub count_is : code.count ≡ length t.bytes
-    unfolding coded
-    count_is = ap (λ (c : Code). c.count) t.held
-
-    pub count_few : code.count ≤ 3
-    count_few = rw count_is (verdict_short a (text_of (drop from text)).lines t.bytes t.has)
-
-    fault_bytes : {n : ℕ} {bytes : List ℕ} → Fault n ≡ Bytes bytes → ⊥
-    fault_bytes e = let z : ◌≡◌ {A = ℕ} 0 1 = cc in omega arith
-
-    pub ends_inside : end < length text
-    ends_inside = go (ltb end (length text)) refl
-      where
-        go : (u : Bool) → ltb end (length text) ≡ u → end < length text
-        go true h = ltb-true end (length text) h
-        go false h =
-            let left = length-drop from text in
-            let past = ltb-false end (length text) h in
-            absurd (fault_bytes (sym (head_cut a (drop from text) (omega (arith, is, left, past))) ∙ t.has))
-
-    -- where there is room, its bytes stand before those of the rest
-    pub on : (line room : ℕ) → code.count ≤ room
-        → outcome_on (drop from text) a line room
-        ≡ prepended t.bytes (outcome_on (drop (end + 1) text) (further code.count a) (line + 1) (room - code.count))
-    unfolding line_outcome outcome_if
-    on line room h =
-        turn line room ∙ (rw (t.has, count_is, le-ltb room (length t.bytes) (rw count_is at h)) refl)
-
-    pub no_room : (line room : ℕ) → room < code.count → outcome_on (drop from text) a line room ≡ Refused 10 line
-    unfolding line_outcome outcome_if
-    no_room line room h = turn line room ∙ (rw (t.has, lt-ltb room (length t.bytes) (rw count_is at h)) refl)
-
-  pub fault_here : (n line room : ℕ) → verdict_here ≡ Fault n → outcome_on (drop from text) a line room ≡ Refused n line
+module _ (s : Left) (some : 0 < length s.text.now) (room : ℕ) where
+  pub faulty : (f : code.Fault) → FaultsLine s f → outcome_left s room ≡ Refused (number_of f.refusal) f.line
   unfolding line_outcome
-  fault_here n line room v = turn line room ∙ (rw v refl)
+  faulty f l = outcome_first s.text.now s.address s.line room some ∙ rw (l.has, l.line)
+
+  module _ (bytes : List ℕ) (behind : Left) (l : TakesLine s bytes behind) where
+    -- where there is room, its bytes stand before those of the rest
+    pub on : length bytes ≤ room → outcome_left s room ≡ prepended bytes (outcome_left behind (room - length bytes))
+    unfolding line_outcome outcome_if
+    on h =
+        outcome_first s.text.now s.address s.line room some
+        ∙ rw (l.has, le-ltb room (length bytes) h, l.text, l.address, l.line)
+
+    pub no_room : room < length bytes → outcome_left s room ≡ Refused 10 s.line
+    unfolding line_outcome outcome_if
+    no_room h = outcome_first s.text.now s.address s.line room some ∙ rw (l.has, lt-ltb room (length bytes) h)
+
+-- nothing is before the whole, and the bytes of a line stand behind those before it
+pub begun : (o : Outcome) → prepended [] o ≡ o
+unfolding prepended
+begun (Refused n line) = refl
+begun (Done bytes) = refl
+
+pub joined : (done bytes : List ℕ) (o : Outcome) → prepended (done ++ bytes) o ≡ prepended done (prepended bytes o)
+unfolding prepended
+joined done bytes (Refused n line) = refl
+joined done bytes (Done more) = ap Done (append_assoc done bytes more)
+
+-- at the end nothing is left
+pub ended : (s : Left) (room : ℕ) → length s.text.now ≤ 0 → outcome_left s room ≡ Done []
+unfolding outcome_on outcome_from text_of left_outcome
+ended s room h = go s.text.now h
+  where
+    go : (text : List ℕ) → length text ≤ 0 → outcome_on text s.address s.line room ≡ Done []
+    go [] h = refl
+    go (c ∷ cs) h = absurd (omega arith)

@@ -3,8 +3,8 @@
 use Rattle.std.specs.Prelude.{ℕ, Bool, true, false, ◌&&◌, List, eqb, leb}
 use Rattle.arith.specs.Words.{back, further}
 use Rattle.constants.specs.Answer.{found_of, found_if}
-use Rattle.constants.specs.declared.Found.{Found}
-use Rattle.constants.specs.declared.Found.TheVariants.{NoForm, Deep, Large, Above, Below}
+use Rattle.constants.specs.Answer.{Found}
+use Rattle.constants.specs.Answer.{NoForm, Deep, Large, Above, Below}
 use Rattle.spellings.specs.Outline.{outline_in, constant_in}
 use Rattle.spellings.specs.Rows.{row_by, no_row, slot_at}
 use Rattle.spellings.specs.Bytes.{bytes_of}

@@ -4,7 +4,6 @@ use Rattle.std.specs.Prelude.{ℕ, ◌+◌, ◌-◌, Bool, true, false, List, []
 use Rattle.arith.specs.Words.{further}
 use Rattle.digits.specs.Ascii.{newline}
 use Rattle.assembler.specs.Lines.{Verdict, Fault, Bytes, verdict_of}
-use Rattle.assembler.specs.declared.Assembled.{Assembled}
 
 -- a text falls apart into the lines that end in a newline and what is left behind the last newline
 pub record Text : Type 0 where
@@ -55,6 +54,12 @@ outcome_from (l ∷ ls) rest a line room =
 
 unfoldable pub outcome_of : ℕ → List ℕ → ℕ → Outcome
 outcome_of first text room = outcome_from (text_of text).lines (text_of text).rest first 1 room
+
+-- what is answered: a refusal's number or 0, the number of the first line at fault, and the length that was written
+pub record Assembled : Type 0 where
+  pub code : ℕ
+  pub line : ℕ
+  pub length : ℕ
 
 -- an answer, and the output with it: a refusal leaves it as it is, and what lies past the bytes stays
 pub record Answer : Type 0 where

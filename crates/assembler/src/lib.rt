@@ -4,53 +4,27 @@
 mod lines;
 mod ranges;
 mod texts;
-mod writing;
 
 ghost use Rattle.assembler.specs.Text.{Assembles, assemble_of};
+ghost use Rattle.assembler.specs.Judging.{told_assembly};
 
-use spellings::Code;
+use arith::Refusal;
+use listing::writing::Writer;
 
-// What is answered: a code, the number of the first line at fault, and the length that was written.
-#[derive(Clone, Copy)]
-pub struct Assembled {
-    pub code: u8,
+// Why a text is refused, and the number of the first line at fault.
+#[derive(Clone, Copy, PartialEq, Eq, Debug)]
+pub struct Fault {
+    pub refusal: Refusal,
     pub line: usize,
-    pub length: usize,
 }
 
-// What a line is: at fault, or its bytes.
-#[derive(Clone, Copy)]
-enum Judged {
-    Faulty(u8),
-    Takes(Code),
-}
-
-// What a text is: refused, with the line, or so many bytes.
-#[derive(Clone, Copy)]
-enum Measured {
-    AtFault(u8, usize),
-    Fits(usize),
-}
-
-// The bytes of lines of spelling, the first of which stands at an address. Refusals, for the first line at fault: 12 a line of no such
-// form, 13 nesting deeper than 16, 14 a number or a value out of range, 10 no room; the output is then unchanged.
-pub fn assemble(text: &[u8], first: u16, out: &mut [u8]) -> Assembled
-    ensures { Assembles (assemble_of first text.now out.old) result out.new }
+// The bytes of lines of spelling, the first of which stands at an address, and how many they are. Refusals, for the first line at fault:
+// 12 a line of no such form, 13 nesting deeper than 16, 14 a number or a value out of range, 10 no room; the output is then unchanged.
+pub fn assemble(text: &[u8], first: u16, out: &mut [u8]) -> Result<usize, Fault>
+    ensures { Assembles (assemble_of first text.now out.old) (told_assembly result) out.new }
 {
-    let measured = texts::measure(text, first, out.len());
-    match measured {
-        Measured::AtFault(code, line) => Assembled {
-            code,
-            line,
-            length: 0,
-        },
-        Measured::Fits(length) => {
-            texts::write(text, first, out);
-            Assembled {
-                code: 0,
-                line: 0,
-                length,
-            }
-        }
-    }
+    let length = texts::measure(text, first, out.len())?;
+    let mut writer = Writer { out, at: 0 };
+    texts::write(text, first, &mut writer);
+    Ok(length)
 }

@@ -1,61 +1,43 @@
 // A line: what stands in the place of its constant, and its bytes or its fault.
 ghost use Rattle.std.specs.Prelude.{◌≡◌};
-ghost use Rattle.assembler.specs.Lines.{standing, valued_by, verdict_of};
-ghost use Rattle.assembler.specs.Judging.{judged_of};
+ghost use Rattle.std.specs.Result.{MatchResult};
+ghost use Rattle.arith.specs.Numbers.{number_of};
+ghost use Rattle.constants.specs.Answer.{answer_in, signed};
+ghost use Rattle.assembler.specs.Lines.{Fault, Bytes, standing, verdict_by, verdict_of};
 
-use crate::{Judged, ranges};
-use arith::words;
-use constants::Found;
+use crate::ranges;
+use arith::{Refusal, words};
+use arrayvec::ArrayVec;
 use spellings::Slot;
 
-// The number of no row.
-const NO_ROW: u16 = 513;
-
-// What stands in the place of a row's constant.
-fn standing(slot: Slot, text: &[u8]) -> Found
-    ensures { result ≡ standing slot text.now }
+// The value that stands in the place of a row's constant.
+fn standing(slot: Slot, text: &[u8]) -> Result<i32, Refusal>
+    ensures { result ≡ answer_in (standing slot text.now) }
 {
     match slot {
-        Slot::Bare => Found::Above(0),
+        Slot::Bare => Ok(0),
         _ => constants::read(text),
     }
 }
 
-// A word in the place of a row's constant, at an address; it is out of range where it is not inside or not reached.
-fn valued(address: u16, row: u16, slot: Slot, inside: bool, w: u16) -> Judged
-    ensures { result ≡ judged_of (valued_by address row slot inside w) }
+// A value in the place of a row's constant, at an address; it is out of range where it is not held or not reached.
+fn valued(address: u16, row: u16, slot: Slot, value: i32) -> Result<ArrayVec<u8, 4>, Refusal>
+    ensures { MatchResult result (λ code. verdict_by address row slot (signed value) ≡ Bytes code.items) (λ r. verdict_by address row slot (signed value) ≡ Fault (number_of r)) }
 {
-    let n = ranges::number(words::further(2, address), slot, w);
-    if inside & ranges::reached(slot, n) {
-        return Judged::Takes(spellings::bytes(row, slot, n));
+    let number = ranges::number(words::further(2, address), slot, ranges::word(value));
+    if ranges::holds(slot, value) && ranges::reached(slot, number) {
+        Ok(spellings::bytes(row, slot, number))
+    } else {
+        Err(Refusal::Range)
     }
-    Judged::Faulty(14)
 }
 
 // A line at an address.
-pub(crate) fn judge(line: &[u8], address: u16) -> Judged
-    ensures { result ≡ judged_of (verdict_of address line.now) }
+pub(crate) fn judge(line: &[u8], address: u16) -> Result<ArrayVec<u8, 4>, Refusal>
+    ensures { MatchResult result (λ code. verdict_of address line.now ≡ Bytes code.items) (λ r. verdict_of address line.now ≡ Fault (number_of r)) }
 {
     let form = spellings::find(line);
-    let row = form.row;
-    let slot = form.slot;
-    let from = form.from;
-    let to = form.to;
-    if row == NO_ROW {
-        return Judged::Faulty(12);
-    }
-    let found = standing(slot, &line[from..to]);
-    match found {
-        Found::NoForm => Judged::Faulty(12),
-        Found::Deep => Judged::Faulty(13),
-        Found::Large => Judged::Faulty(14),
-        Found::Above(n) => valued(address, row, slot, n <= ranges::highest(slot), n),
-        Found::Below(n) => valued(
-            address,
-            row,
-            slot,
-            n <= ranges::lowest(slot),
-            words::back(n, 0),
-        ),
-    }
+    let row = form.row.ok_or(Refusal::Form)?;
+    let value = standing(form.slot, &line[form.from..form.to])?;
+    valued(address, row, form.slot, value)
 }

@@ -1,123 +1,85 @@
 -- `write` writes line after line.
-use Prim.Native.Nat.{ℕ, ◌+◌, ◌-◌, ◌≤◌, ◌<◌}
-use borrow.Author.Rules.{rules}
+use Prim.Native.Nat.{ℕ, ◌-◌, ◌≤◌, ◌<◌}
 use borrow.Author.Tests.{ltb-true, ltb-false}
 use mathlib.Core.Bool.{Bool, true, false}
-use mathlib.Core.List.{List, [], ◌∷◌, ◌++◌}
-use mathlib.Core.Path.{◌≡◌, refl, sym, ◌∙◌, ap}
+use mathlib.Core.List.{List, [], ◌++◌, append-nil}
+use mathlib.Core.Path.{◌≡◌, refl, sym, ap, ◌∙◌}
 use native.Mathlib.Omega.{arith}
 use lib.Dec.{ltb}
-use lib.ListN.{length, drop, drop_of_length-le}
-use Rattle.arith.specs.Words.{further}
-use Rattle.digits.specs.Digits.{byte_in}
-use Rattle.listing.specs.Written.{Cursor, cursor, written, Reaches}
-use Rattle.listing.proofs.Texts.{written_append}
-use Rattle.spellings.specs.Bytes.{coded}
-use Rattle.spellings.specs.declared.Code.{Code}
-use Rattle.assembler.specs.Text.{text_of, left_outcome, outcome_from, outcome_of}
-use Rattle.assembler.specs.Judging.{judged_of, bytes_in, outcome_on}
-use Rattle.assembler.specs.declared.Judged.{Judged}
-use Rattle.assembler.specs.declared.Judged.TheVariants.{Faulty, Takes}
-use Rattle.assembler.proofs.First.{line_in}
-use Rattle.assembler.proofs.Outcomes.{refused_done, done_bytes, parted}
-use Rattle.assembler.proofs.Turns.{Taken, at_fault, takes, verdict_here, count_is, count_few, ends_inside, on, no_room, fault_here}
-use Rattle.assembler.proofs.texts.write.Invariants.{Left}
+use lib.ListN.{length}
+use Rattle.std.proofs.Common.{rules}
+use Rattle.listing.specs.Written.{Writes}
+use Rattle.listing.specs.declared.writing.Writer.{Writer}
+use Rattle.listing.proofs.Writers.{after, unwritten}
+use Rattle.assembler.specs.Text.{Done, prepended, outcome_of}
+use Rattle.assembler.specs.Judging.{outcome_on, TakesLine, FaultsLine}
+use Rattle.assembler.specs.declared.Fault as code
+use Rattle.assembler.specs.declared.texts.Left.{Left}
+use Rattle.assembler.proofs.Outcomes.{refused_done, done_bytes}
+use Rattle.assembler.proofs.Turns.{faulty, on, no_room, begun, joined, ended}
+use Rattle.assembler.proofs.texts.write.Invariants.{Parted}
 use Rattle.assembler.proofs.texts.write.Goals as goal
 
-held_bytes : (bytes : List ℕ) → length bytes ≤ 3 → bytes_in (coded bytes) ≡ bytes
-unfolding bytes_in coded byte_in
-held_bytes [] h = refl
-held_bytes (x ∷ []) h = refl
-held_bytes (x ∷ y ∷ []) h = refl
-held_bytes (x ∷ y ∷ z ∷ []) h = refl
-held_bytes (x ∷ y ∷ z ∷ w ∷ rest) h = absurd (omega arith)
+module _ (all : List ℕ) (s : Left) (old new : Writer) (p : Parted all s old new) where
+  no_fault : 0 < length s.text.now → (f : code.Fault) → FaultsLine s f → ⊥
+  unfolding prepended
+  no_fault some f l = refused_done (rw (faulty s some p.room f l) at p.comes)
 
--- a turn of the loop
-module _ (text : List ℕ) (from end a at : ℕ) (out : List ℕ) (here : from < length text)
-    (is : end ≡ from + length (line_in (drop from text))) (judged : Judged)
-    (judges : judged ≡ judged_of (verdict_here text from end a here is)) (whole : Cursor)
-  where
-    no_fault : (n : ℕ) → judged ≡ Faulty n → Left text from a at out whole → ⊥
-    no_fault n told l =
-        refused_done (sym (fault_here text from end a here is n l.line l.room (at_fault _ judged n judges told)) ∙ l.comes)
+  module _ (some : 0 < length s.text.now) (bytes : List ℕ) (behind : Left) (l : TakesLine s bytes behind) where
+    short : p.room < length bytes → ⊥
+    unfolding prepended
+    short h = refused_done (rw (no_room s some p.room bytes behind l h) at p.comes)
 
-    module _ (code : Code) (told : judged ≡ Takes code) where
-      taken : Taken (verdict_here text from end a here is) code
-      taken = takes _ judged code judges told
+    more : (next : Writer) → Writes bytes new next → Parted all behind old next
+    more next w = go (ltb p.room (length bytes)) refl
+      where
+        go : (t : Bool) → ltb p.room (length bytes) ≡ t → Parted all behind old next
+        go true h = absurd (short (ltb-true _ _ h))
+        go false h = record {
+          done = p.done ++ bytes;
+          room = p.room - length bytes;
+          comes = joined p.done bytes _ ∙ ap (prepended p.done) (sym (on s some p.room bytes behind l (ltb-false _ _ h))) ∙ p.comes;
+          writes = after p.writes w;
+        }
 
-      few : code.count ≤ 3
-      few = count_few text from end a here is code taken
+  whole : length s.text.now ≤ 0 → Writes all old new
+  unfolding prepended
+  whole h =
+      let same : p.done ≡ all = done_bytes p.done all (rw (ended s p.room h, append-nil p.done) at p.comes) in
+      rw (← same) p.writes
 
-      inside : end < length text
-      inside = ends_inside text from end a here is code taken
-
-      code_bytes : bytes_in code ≡ taken.bytes
-      code_bytes =
-          let long = count_is text from end a here is code taken in
-          ap bytes_in taken.held ∙ held_bytes taken.bytes (omega (arith, long, few))
-
-      module _ (next : ℕ) (further_on : next ≡ further code.count a) (at' : ℕ) (out' : List ℕ) (r : Reaches (written (bytes_in code) (cursor at out)) at' out') where
-        onward : (more rest : List ℕ) → more ≡ taken.bytes ++ rest → written more (cursor at out) ≡ whole → written rest (cursor at' out') ≡ whole
-        onward more rest j w =
-            rw (r.place, r.left, code_bytes) (rw (j, written_append taken.bytes rest (cursor at out)) at w)
-
-        goes_on_lem : Left text from a at out whole → Left text (end + 1) next at' out' whole
-        goes_on_lem l = go (ltb l.room code.count) refl
-          where
-            go : (t : Bool) → ltb l.room code.count ≡ t → Left text (end + 1) next at' out' whole
-            go true h =
-                absurd (refused_done (sym (no_room text from end a here is code taken l.line l.room (ltb-true _ _ h)) ∙ l.comes))
-            go false h =
-                let b = parted taken.bytes l.more _ (sym (on text from end a here is code taken l.line l.room (ltb-false _ _ h)) ∙ l.comes) in
-                record {
-                  more = b.rest;
-                  line = l.line + 1;
-                  room = l.room - code.count;
-                  comes = rw further_on b.comes;
-                  writes = onward l.more b.rest b.joins l.writes;
-                }
-
--- nothing is left
-all_written : (text : List ℕ) (from a at : ℕ) (out : List ℕ) (whole : Cursor) → length text ≤ from → Left text from a at out whole → Reaches whole at out
-unfolding outcome_on outcome_from text_of left_outcome written
-all_written text from a at out whole past l =
-    let none = done_bytes [] l.more (rw (drop_of_length-le text {i = from} past) at l.comes) in
-    let same = rw (sym none) at l.writes in
-    rw (sym same) (record { place = refl; left = refl })
-
-pub loop-from-init : goal.loop-from-init
+at_start : (text : List ℕ) (first room : ℕ) (all : List ℕ) (s : Left) (w : Writer) → s.text.now ≡ text → s.address ≡ first → s.line ≡ 1
+    → outcome_of first text room ≡ Done all → Parted all s w w
 unfolding outcome_of outcome_on
-loop-from-init c = record {
-  within = omega arith;
-  left = λ bytes e. record { more = bytes; line = 1; room = _; comes = e; writes = refl };
-}
+at_start text first room all s w t a l e =
+    record { done = []; room = room; comes = begun _ ∙ rw (t, a, l) e; writes = unwritten w }
 
-pub returns-in-Faulty : goal.returns-in-Faulty
-returns-in-Faulty c =
-    λ bytes e. absurd (no_fault _ _ _ _ _ _ c.loop-from-test.true c.line_end-end.ensures _ c.judge_at-judged.ensures _ _ c.in-Faulty.is
-    (c.loop-from.invariant.left bytes e))
+pub loop-left-init : goal.loop-left-init
+loop-left-init c = rw c.new-left.ensures (record { lines = omega arith; same = refl; parted = λ room bytes e. at_start _ _ room bytes _ _ refl refl refl e })
 
-pub overflow_cast-count : goal.overflow_cast-count
-overflow_cast-count c =
-    let count = few _ _ _ _ 0 [] c.loop-from-test.true c.line_end-end.ensures _ c.judge_at-judged.ensures (cursor 0 []) _ c.in-Takes.is in
-    record { fits = omega (arith, count) }
-
-pub overflow_add-from : goal.overflow_add-from
-overflow_add-from c =
-    let most : length c.args.text.now < 18446744073709551616 = search rules in
-    let line = inside _ _ _ _ 0 [] c.loop-from-test.true c.line_end-end.ensures _ c.judge_at-judged.ensures (cursor 0 []) _ c.in-Takes.is in
-    record { fits = omega (arith, line, most) }
-
-pub loop-from-preserved : goal.loop-from-preserved
-loop-from-preserved c =
-    let line = inside _ _ _ _ 0 [] c.loop-from-test.true c.line_end-end.ensures _ c.judge_at-judged.ensures (cursor 0 []) _ c.in-Takes.is in
+pub returns-in_default : goal.returns-in_default
+returns-in_default c =
+    let some : 0 < length c.loop-left.left.text.now = search rules in
     record {
-      within = omega (arith, line);
-      left =
-          λ bytes e.
-          goes_on_lem _ _ _ _ _ _ c.loop-from-test.true c.line_end-end.ensures _ c.judge_at-judged.ensures _ _ c.in-Takes.is _
-          c.further-address.ensures _ _ c.code-at.ensures (c.loop-from.invariant.left bytes e);
+      written = λ room bytes e. absurd (no_fault _ _ _ _ (c.loop-left.invariant.parted room bytes e) some _ c.in_default.ensures.fault);
+      same = c.loop-left.invariant.same;
+    }
+
+pub loop-left-preserved : goal.loop-left-preserved
+loop-left-preserved c =
+    let some : 0 < length c.loop-left.left.text.now = search rules in
+    let taken = c.in-Ok.ensures.taken in
+    let writes = rw c.as_slice.ensures.value at c.write_bytes.ensures in
+    record {
+      lines = omega (arith, taken.line, taken.shorter, c.loop-left.invariant.lines);
+      same = writes.same ∙ c.loop-left.invariant.same;
+      parted = λ room bytes e. more _ _ _ _ (c.loop-left.invariant.parted room bytes e) some _ _ taken _ writes;
     }
 
 pub returns : goal.returns
-returns c = λ bytes e. all_written _ _ _ _ _ _ c.loop-from-test.false (c.loop-from.invariant.left bytes e)
+returns c =
+    let none : length c.loop-left.left.text.now ≤ 0 = search rules in
+    record {
+      written = λ room bytes e. whole _ _ _ _ (c.loop-left.invariant.parted room bytes e) none;
+      same = c.loop-left.invariant.same;
+    }

@@ -1,26 +1,25 @@
--- Where the whole text has no fault, what is left of it has none, and its bytes, written behind what is there, give the whole.
-use Rattle.std.proofs.Common.{ℕ, List, length, drop, ◌-◌, ◌≡◌, ◌≤◌}
-use Rattle.listing.specs.Written.{Cursor, cursor, written}
-use Rattle.assembler.specs.Text.{Done, outcome_of}
-use Rattle.assembler.specs.Judging.{outcome_on}
+-- Where the whole text has no fault, what is left of it has none, and its bytes stand behind those that are written.
+use Rattle.std.proofs.Common.{ℕ, List, length, ◌+◌, ◌≡◌, ◌<◌, ◌^◌}
+use Rattle.listing.specs.Written.{Writes}
+use Rattle.listing.specs.declared.writing.Writer.{Writer}
+use Rattle.assembler.specs.Text.{Done, prepended, outcome_of}
+use Rattle.assembler.specs.declared.texts.Left.{Left}
+use Rattle.assembler.proofs.Turns.{outcome_left}
 use Rattle.assembler.proofs.texts.write.Given as goal
 
--- what is left of a text without a fault, and what writing it gives
-pub record Left (text : List ℕ) (from a at : ℕ) (out : List ℕ) (whole : Cursor) : Type 0 where
-  pub more : List ℕ
-  pub line : ℕ
+pub record Parted (bytes : List ℕ) (s : Left) (old new : Writer) : Type 0 where
+  pub done : List ℕ
   pub room : ℕ
-  pub comes : outcome_on (drop from text) a line room ≡ Done more
-  pub writes : written more (cursor at out) ≡ whole
+  pub comes : prepended done (outcome_left s room) ≡ Done bytes
+  pub writes : Writes done old new
 
-abbrev pub invariant-loop-from : goal.invariant-loop-from
-invariant-loop-from l =
+abbrev pub invariant-loop-left : goal.invariant-loop-left
+invariant-loop-left l =
     record {
-      within : l.from ≤ length l.text;
-      left :
-          (bytes : List ℕ) → outcome_of l.first l.text (length l.fn.out) ≡ Done bytes
-          → Left l.text l.from l.address l.at l.out (written bytes (cursor 0 l.fn.out));
+      lines : l.left.line + length l.left.text.now < 2 ^ 64;
+      same : l.writer.out.ghost_name ≡ l.initial.writer.out.ghost_name;
+      parted : (room : ℕ) (bytes : List ℕ) → outcome_of l.first l.text room ≡ Done bytes → Parted bytes l.left l.initial.writer l.writer;
     }
 
-abbrev pub decreases-loop-from : goal.decreases-loop-from
-decreases-loop-from l = length l.text - l.from
+abbrev pub decreases-loop-left : goal.decreases-loop-left
+decreases-loop-left l = length l.left.text.now
