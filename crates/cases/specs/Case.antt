@@ -5,11 +5,10 @@ use Rattle.arith.specs.Words.{high_of, low_of}
 use Rattle.machine.specs.Answers.{With}
 use Rattle.machine.specs.State.{cpu_of}
 use Rattle.machine.specs.Memory.{Memory, byte_at, stored}
-use Rattle.machine.specs.Step.{step_of}
+use Rattle.machine.specs.Step.{Stepped, step_of}
 use Rattle.machine.specs.declared.Ime.{Ime}
 use Rattle.machine.specs.declared.Mode.TheVariants.{Running}
 use Rattle.machine.specs.declared.Cpu.{Cpu}
-use Rattle.machine.specs.declared.Stepped.{Stepped}
 
 -- a byte at an address
 pub record Cell : Type 0 where

@@ -2,9 +2,8 @@
 -- 0 30 16 02C0 0000 C102 C002 E000 1234 0 0
 -- Assumes nothing.
 use Rattle.std.specs.Prelude.{List, [], ◌∷◌}
-use Rattle.machine.specs.Run.{run_of}
+use Rattle.machine.specs.Run.{Ran, run_of}
 use Rattle.machine.specs.declared.Ime.TheVariants.{Off}
-use Rattle.machine.specs.declared.Ran.{Ran}
 use Rattle.cases.specs.Case.Shown.{shown}
 use Rattle.cases.specs.Case.{Cell, cell, Shown, shown_of, memory_of, state_of}
 

@@ -15,7 +15,7 @@ use Rattle.arith.specs.Words.{high_of, back}
 use Rattle.arith.specs.Rotates.{rotation_of, rotation_a_of}
 use Rattle.arith.specs.declared.Alu.{Alu}
 use Rattle.arith.specs.declared.Alu.TheVariants.{Add, Adc, Sub, Sbc, And, Xor, Or, Cp}
-use Rattle.arith.specs.declared.Byte.{Byte}
+use Rattle.arith.specs.Flagged.{Byte}
 use Rattle.arith.proofs.Laws.{ByteFits, flags_low, flags_below, high_below_lem, low_below_lem, word_below, further_below, back_below, offset_below, alu_fits, increased_fits, decreased_fits, rotation_fits, rotation_a_fits, decimal_fits, added_hl_fits, added_sp_fits, reset_below, set_below, tested_low, tested_below}
 use Rattle.insn.specs.Shapes.{shape_of}
 use Rattle.insn.specs.Grid.{operand_of}
@@ -40,12 +40,11 @@ use Rattle.machine.specs.Stack.{high_below, pushed_of, returned_to, called_of}
 use Rattle.machine.specs.Operands.{value_of, held_of, placed_of, updated_of, moved_of}
 use Rattle.machine.specs.Execute.{done, plainly, exec_of, result_of, added_to_hl_of, added_to_sp_of, hl_from_sp_of, taken_if, stores_if, stored_to, stored_at_of, loaded_from, complemented_of, with_carry_of, halted_by, halted_of}
 use Rattle.machine.specs.Interrupts.{pending_of, lowest_set, lowest_of, chosen_if, chosen_of, vectored_of, dispatch_of}
-use Rattle.machine.specs.Step.{act, accepting, next_rest, next_insn, next_after, ready_of, end_of, instruction_act, rule_of, step_refusals, step_of}
+use Rattle.machine.specs.Step.{Stepped, act, accepting, next_rest, next_insn, next_after, ready_of, end_of, instruction_act, rule_of, step_refusals, step_of}
 use Rattle.machine.specs.declared.Ime.{Ime}
 use Rattle.machine.specs.declared.Ime.TheVariants.{Off, Arming, On}
 use Rattle.machine.specs.declared.Cpu.{Cpu}
 use Rattle.machine.specs.declared.Done.{Done}
-use Rattle.machine.specs.declared.Stepped.{Stepped}
 use Rattle.machine.proofs.Fields.{by_place, pair_same, moved_same, placed_same, updated_same, taken_same}
 use Rattle.machine.proofs.Sound.{Sound, Bytes}
 use Rattle.machine.proofs.ReadOverWrite.{stored_same, stored_other, stored_out}

@@ -11,9 +11,8 @@ use Rattle.insn.proofs.Laws.{cycles_most}
 use Rattle.machine.specs.Memory.{Memory}
 use Rattle.machine.specs.Answers.{With}
 use Rattle.machine.specs.Execute.{exec_of}
-use Rattle.machine.specs.Step.{next_insn, next_after, ready_of, end_of, instruction_act, rule_of, due_refusals, step_refusals, step_unless, due_step, step_of}
+use Rattle.machine.specs.Step.{Stepped, next_insn, next_after, ready_of, end_of, instruction_act, rule_of, due_refusals, step_refusals, step_unless, due_step, step_of}
 use Rattle.machine.specs.declared.Cpu.{Cpu}
-use Rattle.machine.specs.declared.Stepped.{Stepped}
 use Rattle.machine.proofs.Bounds.{executed}
 use Rattle.machine.proofs.Rules.{by_outcome, by_rules}
 use Rattle.machine.proofs.Refused.{due_least, step_least}

@@ -1,8 +1,6 @@
--- What the proofs of functions that are lent the memory share: an answer and a memory that are those of the definition by computation,
--- and the kit's lemmas for what is trivial.
+-- What the proofs of functions that are lent the memory share: an answer and a memory that are those of the definition by computation.
 -- Assumes nothing.
 use mathlib.Core.Path.{refl}
-pub use borrow.Author.Rules.{rules}
 use Rattle.machine.specs.Answers.{With, Gives}
 
 pub exactly : {A : Type 0} {w : With A} → Gives w w.out w.mem

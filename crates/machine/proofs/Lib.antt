@@ -4,6 +4,7 @@ pub mod ReadOverWrite
 pub mod Fields
 pub mod Sound
 pub mod Rules
+pub mod Same
 pub mod Dispatch
 pub mod Refused
 pub mod Bounds

@@ -13,9 +13,8 @@ use Rattle.insn.specs.Shapes.{shape_of, is_undefined}
 use Rattle.insn.proofs.Laws.{undefined_bytes, among, undefined_is, undefined_bytes_lem}
 use Rattle.machine.specs.Answers.{With}
 use Rattle.machine.specs.Memory.{Memory, byte_at}
-use Rattle.machine.specs.Step.{Act, refusing, accepting, dispatches, idles, next_rest, next_insn, end_of, instruction_act, rule_by, rule_of, input_refusals, due_refusals, step_refusals, step_unless, due_step, step_of}
+use Rattle.machine.specs.Step.{Stepped, Act, refusing, accepting, dispatches, idles, next_rest, next_insn, end_of, instruction_act, rule_by, rule_of, input_refusals, due_refusals, step_refusals, step_unless, due_step, step_of}
 use Rattle.machine.specs.declared.Cpu.{Cpu}
-use Rattle.machine.specs.declared.Stepped.{Stepped}
 use Rattle.machine.proofs.Rules.{by_outcome}
 
 -- where w is refused it is s and m with no cycles

@@ -16,13 +16,12 @@ use Rattle.machine.specs.Memory.{Memory, memory_size}
 use Rattle.machine.specs.Answers.{With, storeless}
 use Rattle.machine.specs.Modes.{is_on, is_halted, is_stopped}
 use Rattle.machine.specs.Interrupts.{dispatch_due_of, dispatch_of}
-use Rattle.machine.specs.Step.{Act, act, refusing, accepting, dispatches, idles, instruction_act, rule_by, rule_of, input_refusals, step_refusals, step_unless, due_step, step_of}
+use Rattle.machine.specs.Step.{Stepped, Act, act, refusing, accepting, dispatches, idles, instruction_act, rule_by, rule_of, input_refusals, step_refusals, step_unless, due_step, step_of}
 use Rattle.machine.specs.declared.Ime.{Ime}
 use Rattle.machine.specs.declared.Ime.TheVariants.{Off, Arming, On}
 use Rattle.machine.specs.declared.Mode.{Mode}
 use Rattle.machine.specs.declared.Mode.TheVariants.{Running, Repeat, Halted, Stopped}
 use Rattle.machine.specs.declared.Cpu.{Cpu}
-use Rattle.machine.specs.declared.Stepped.{Stepped}
 
 -- a step behind any refusals
 

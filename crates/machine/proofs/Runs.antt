@@ -14,11 +14,9 @@ use Rattle.arith.specs.Refusals.{code_of, unless_refused, order}
 use Rattle.arith.proofs.Refusals.{by_code}
 use Rattle.machine.specs.Answers.{With}
 use Rattle.machine.specs.Memory.{Memory, memory_size}
-use Rattle.machine.specs.Step.{due_step, step_of}
-use Rattle.machine.specs.Run.{largest_budget, ending, while_below, after_step, run_from, run_refusals, run_of, runs}
+use Rattle.machine.specs.Step.{Stepped, due_step, step_of}
+use Rattle.machine.specs.Run.{Ran, largest_budget, ending, while_below, after_step, run_from, run_refusals, run_of, runs}
 use Rattle.machine.specs.declared.Cpu.{Cpu}
-use Rattle.machine.specs.declared.Ran.{Ran}
-use Rattle.machine.specs.declared.Stepped.{Stepped}
 use Rattle.machine.proofs.Costs.{step_paid}
 use Rattle.machine.proofs.Keeps.{step_length, step_low}
 use Rattle.machine.proofs.Refused.{step_unmoved, due_code_least, due_code_most}

@@ -8,7 +8,7 @@ use Rattle.arith.specs.Bytes.{alu_of, increased_of, decreased_of, reset_of, set_
 use Rattle.arith.specs.Rotates.{rotation_of, rotation_a_of}
 use Rattle.arith.specs.Decimal.{decimal_of}
 use Rattle.arith.specs.Words.{further, back, offset_of, added_hl_of, added_sp_of}
-use Rattle.arith.specs.declared.Byte.{Byte}
+use Rattle.arith.specs.Flagged.{Byte}
 use Rattle.insn.specs.declared.Pointer.{Pointer}
 use Rattle.insn.specs.declared.Pair.{Pair}
 use Rattle.insn.specs.Grid.{operand_of}

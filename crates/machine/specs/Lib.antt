@@ -10,3 +10,4 @@ pub mod Interrupts
 pub mod Execute
 pub mod Step
 pub mod Run
+pub mod Told

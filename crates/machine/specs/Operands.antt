@@ -3,7 +3,7 @@
 -- Assumes nothing.
 use Rattle.std.specs.Prelude.{ℕ, [], ◌∷◌}
 use Rattle.arith.specs.Words.{word_of, further, back}
-use Rattle.arith.specs.declared.Byte.{Byte}
+use Rattle.arith.specs.Flagged.{Byte}
 use Rattle.insn.specs.Grid.{operand_of}
 use Rattle.insn.specs.declared.Register.TheVariants as reg
 use Rattle.insn.specs.declared.Operand.{Operand}

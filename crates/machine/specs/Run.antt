@@ -4,12 +4,17 @@ use Rattle.std.specs.Prelude.{ℕ, zero, suc, ◌+◌, Bool, true, false, List, 
 use Rattle.arith.specs.Refusals.{Refusal, ◌when◌, code_of, unless_refused}
 use Rattle.machine.specs.Memory.{Memory}
 use Rattle.machine.specs.Answers.{With, keeping}
-use Rattle.machine.specs.Step.{input_refusals, step_of}
+use Rattle.machine.specs.Step.{Stepped, input_refusals, step_of}
 use Rattle.machine.specs.declared.Cpu.{Cpu}
-use Rattle.machine.specs.declared.Stepped.{Stepped}
-use Rattle.machine.specs.declared.Ran.{Ran}
 
--- a run that ended: its code, the cycles spent, the steps taken, the state and the memory
+-- a run: its number, the cycles spent, the steps taken and the state at its end
+pub record Ran : Type 0 where
+  pub code : ℕ
+  pub spent : ℕ
+  pub steps : ℕ
+  pub cpu : Cpu
+
+-- a run that ended, with the memory
 abbrev pub ending : ℕ → ℕ → ℕ → Cpu → Memory → With Ran
 ending code spent steps s m = keeping (record { code = code; spent = spent; steps = steps; cpu = s }) m
 

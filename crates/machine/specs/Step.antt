@@ -19,9 +19,14 @@ use Rattle.machine.specs.declared.Mode.{Mode}
 use Rattle.machine.specs.declared.Mode.TheVariants.{Running, Repeat, Halted, Stopped}
 use Rattle.machine.specs.declared.Cpu.{Cpu}
 use Rattle.machine.specs.declared.Done.{Done}
-use Rattle.machine.specs.declared.Stepped.{Stepped}
 
--- a step's answer: its code, its cycles, the state and the memory
+-- a step: its number, its cycles and the state after it
+pub record Stepped : Type 0 where
+  pub code : ℕ
+  pub cycles : ℕ
+  pub cpu : Cpu
+
+-- the same with the memory
 abbrev pub stepped : ℕ → ℕ → Cpu → Memory → With Stepped
 stepped code cycles s m = keeping (record { code = code; cycles = cycles; cpu = s }) m
 

@@ -1,31 +1,37 @@
 // Jumps, calls and returns, with and without a condition.
-ghost use Rattle.std.specs.Prelude.{◌≡◌, length};
+#![tactic(auto, unfolding(crate::specs::Execute::acts))]
+
+ghost use Rattle.std.specs.Prelude.{◌≡◌};
 ghost use Rattle.arith.specs.Words.{offset_of};
 ghost use Rattle.machine.specs.Answers.{Gives, storing, making};
 ghost use Rattle.machine.specs.Execute.{taken_if, stores_if};
-ghost use Rattle.machine.specs.Memory.{memory_size, word_at};
+ghost use Rattle.machine.specs.Memory.{word_at};
 ghost use Rattle.machine.specs.Stack.{called_of, returned_to};
 ghost use Rattle.machine.specs.State.{with_pc, met_of, hl_of};
 
-use crate::{Cpu, Done};
+use crate::{Cpu, Done, MEMORY_SIZE};
 use arith::words;
 use insn::Cond;
 
 impl Cpu {
-    // The address after, moved by a signed byte.
-    pub(crate) fn jump_by(mut self, e: u8) -> Cpu
-        ensures { result ≡ with_pc (offset_of e self.pc) self }
+    // An instruction that is done, with the cycles beyond its own.
+    pub(crate) fn done_after(self, extra: u8) -> Done
+        ensures { result ≡ record { cpu = self; extra = extra } }
     {
-        self.pc = words::offset(e, self.pc);
-        Cpu { ..self }
+        Done { cpu: self, extra }
     }
 
-    pub(crate) fn jump_hl(mut self) -> Cpu
+    // The address after, moved by a signed byte.
+    pub(crate) fn jump_by(self, e: u8) -> Cpu
+        ensures { result ≡ with_pc (offset_of e self.pc) self }
+    {
+        self.with_pc(words::offset(e, self.pc))
+    }
+
+    pub(crate) fn jump_hl(self) -> Cpu
         ensures { result ≡ with_pc (hl_of self) self }
     {
-        let to = self.hl();
-        self.pc = to;
-        Cpu { ..self }
+        self.with_pc(self.hl())
     }
 
     // A taken one costs 1 more.
@@ -33,15 +39,9 @@ impl Cpu {
         ensures { result ≡ taken_if (met_of cc self.f) 1 (with_pc to self) self }
     {
         if self.met(cc) {
-            Done {
-                cpu: self.with_pc(to),
-                extra: 1,
-            }
+            self.with_pc(to).done_after(1)
         } else {
-            Done {
-                cpu: self,
-                extra: 0,
-            }
+            self.done()
         }
     }
 
@@ -52,38 +52,24 @@ impl Cpu {
     }
 
     // A taken one costs 3 more.
-    pub(crate) fn call_if(self, cc: Cond, to: u16, mem: &mut [u8]) -> Done
-        requires { length mem.old ≡ memory_size }
+    pub(crate) fn call_if(self, cc: Cond, to: u16, mem: &mut [u8; MEMORY_SIZE]) -> Done
         ensures { Gives (making (storing (taken_if (met_of cc self.f) 3 (called_of to self).out self) (stores_if (met_of cc self.f) (called_of to self).stores)) mem.old) result mem.new }
     {
         if self.met(cc) {
-            Done {
-                cpu: self.call(to, mem),
-                extra: 3,
-            }
+            self.call(to, mem).done_after(3)
         } else {
-            Done {
-                cpu: self,
-                extra: 0,
-            }
+            self.done()
         }
     }
 
     // A taken one costs 3 more.
-    pub(crate) fn ret_if(self, cc: Cond, mem: &[u8]) -> Done
-        requires { length mem.now ≡ memory_size }
+    pub(crate) fn ret_if(self, cc: Cond, mem: &[u8; MEMORY_SIZE]) -> Done
         ensures { result ≡ taken_if (met_of cc self.f) 3 (returned_to (word_at mem.now self.sp) self) self }
     {
         if self.met(cc) {
-            Done {
-                cpu: self.ret(mem),
-                extra: 3,
-            }
+            self.ret(mem).done_after(3)
         } else {
-            Done {
-                cpu: self,
-                extra: 0,
-            }
+            self.done()
         }
     }
 }

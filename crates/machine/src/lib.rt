@@ -15,6 +15,8 @@ mod stack;
 mod state;
 mod step;
 
+use arith::Refusal;
+
 // The memory has exactly so many bytes.
 pub const MEMORY_SIZE: usize = 65536;
 
@@ -22,7 +24,7 @@ pub const MEMORY_SIZE: usize = 65536;
 pub const LARGEST_BUDGET: u32 = 1048576;
 
 // The interrupt switch: Off 0, Arming 1, On 2.
-#[derive(Clone, Copy)]
+#[derive(Clone, Copy, PartialEq, Eq, Debug)]
 pub enum Ime {
     Off,
     Arming,
@@ -30,7 +32,7 @@ pub enum Ime {
 }
 
 // Running 0, Repeat 1, Halted 2, Stopped 3.
-#[derive(Clone, Copy)]
+#[derive(Clone, Copy, PartialEq, Eq, Debug)]
 pub enum Mode {
     Running,
     Repeat,
@@ -39,7 +41,7 @@ pub enum Mode {
 }
 
 // The processor's state. An operation takes it by value and hands the next state back.
-#[derive(Clone, Copy)]
+#[derive(Clone, Copy, PartialEq, Eq, Debug)]
 pub struct Cpu {
     pub a: u8,
     pub f: u8,
@@ -56,24 +58,32 @@ pub struct Cpu {
 }
 
 // An instruction that is done: the state after it, and the cycles that a taken branch costs more.
-#[derive(Clone, Copy)]
+#[derive(Clone, Copy, PartialEq, Eq, Debug)]
 pub struct Done {
     pub cpu: Cpu,
     pub extra: u8,
 }
 
-// A step: its code, its cycles and the next state.
-#[derive(Clone, Copy)]
-pub struct Stepped {
-    pub code: u8,
+// A step that was taken: its cycles and the next state.
+#[derive(Clone, Copy, PartialEq, Eq, Debug)]
+pub struct Taken {
     pub cycles: u8,
     pub cpu: Cpu,
 }
 
-// A run: its code, the cycles spent, the steps taken and the state at its end.
+// A step inside a run: what refused it, its cycles and the next state.
+// Stays: a Result that holds the state costs a run 10 instructions a step, since the state then goes through memory.
 #[derive(Clone, Copy)]
+pub(crate) struct Stepped {
+    pub refusal: Option<Refusal>,
+    pub cycles: u8,
+    pub cpu: Cpu,
+}
+
+// A run: what ended it before its budget was met, the cycles spent, the steps taken and the state at its end.
+#[derive(Clone, Copy, PartialEq, Eq, Debug)]
 pub struct Ran {
-    pub code: u8,
+    pub refusal: Option<Refusal>,
     pub spent: u32,
     pub steps: u32,
     pub cpu: Cpu,

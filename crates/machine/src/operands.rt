@@ -1,33 +1,16 @@
 // Operands: a register, the byte at HL, or a constant; the places that bytes are put into; and the pointers that A goes through.
-ghost use Rattle.std.specs.Prelude.{◌≡◌, length};
-ghost use Rattle.insn.specs.Grid.{operand_of};
-ghost use Rattle.machine.specs.Memory.{memory_size};
+#![tactic(auto, unfolding(crate::specs::Execute::acts))]
+
+ghost use Rattle.std.specs.Prelude.{◌≡◌};
 ghost use Rattle.machine.specs.Answers.{Gives, making};
 ghost use Rattle.machine.specs.Operands.{value_of, held_of, placed_of, updated_of, pointed_of, moved_of};
 
-use crate::{Cpu, memory};
+use crate::{Cpu, MEMORY_SIZE, memory};
 use arith::{Byte, words};
-use insn::{Operand, Place, Pointer, Register};
-
-// A place as an operand.
-fn operand(p: Place) -> Operand
-    ensures { result ≡ operand_of p }
-{
-    match p {
-        Place::B => Operand::Reg(Register::B),
-        Place::C => Operand::Reg(Register::C),
-        Place::D => Operand::Reg(Register::D),
-        Place::E => Operand::Reg(Register::E),
-        Place::H => Operand::Reg(Register::H),
-        Place::L => Operand::Reg(Register::L),
-        Place::AtHl => Operand::AtHl,
-        Place::A => Operand::Reg(Register::A),
-    }
-}
+use insn::{Operand, Pair, Place, Pointer, Register};
 
 impl Cpu {
-    pub(crate) fn value(self, o: Operand, mem: &[u8]) -> u8
-        requires { length mem.now ≡ memory_size }
+    pub(crate) fn value(self, o: Operand, mem: &[u8; MEMORY_SIZE]) -> u8
         ensures { result ≡ value_of o self mem.now }
     {
         match o {
@@ -38,16 +21,15 @@ impl Cpu {
     }
 
     // The byte in a place.
-    pub(crate) fn held(self, p: Place, mem: &[u8]) -> u8
-        requires { length mem.now ≡ memory_size }
+    pub(crate) fn held(self, p: Place, mem: &[u8; MEMORY_SIZE]) -> u8
         ensures { result ≡ held_of p self mem.now }
     {
-        self.value(operand(p), mem)
+        self.value(Operand::from(p), mem)
     }
 
     // A byte put into a place.
-    pub(crate) fn place(self, p: Place, v: u8, mem: &mut [u8]) -> Cpu
-        requires { length mem.old ≡ memory_size }
+    // Stays: AtHl is no register, so a conversion would answer an Option, with the same eight arms and a test of it here.
+    pub(crate) fn place(self, p: Place, v: u8, mem: &mut [u8; MEMORY_SIZE]) -> Cpu
         ensures { Gives (making (placed_of p v self) mem.old) result mem.new }
     {
         match p {
@@ -66,8 +48,7 @@ impl Cpu {
     }
 
     // A result put back into its place, with its F.
-    pub(crate) fn update(mut self, p: Place, r: Byte, mem: &mut [u8]) -> Cpu
-        requires { length mem.old ≡ memory_size }
+    pub(crate) fn update(mut self, p: Place, r: Byte, mem: &mut [u8; MEMORY_SIZE]) -> Cpu
         ensures { Gives (making (updated_of p r self) mem.old) result mem.new }
     {
         self.f = r.flags;
@@ -79,10 +60,9 @@ impl Cpu {
         ensures { result ≡ pointed_of p self }
     {
         match p {
-            Pointer::Bc => words::word(self.b, self.c),
-            Pointer::De => words::word(self.d, self.e),
-            Pointer::Hli => self.hl(),
-            Pointer::Hld => self.hl(),
+            Pointer::Bc => self.pair(Pair::Bc),
+            Pointer::De => self.pair(Pair::De),
+            Pointer::Hli | Pointer::Hld => self.hl(),
         }
     }
 
@@ -91,8 +71,7 @@ impl Cpu {
         ensures { result ≡ moved_of p self }
     {
         match p {
-            Pointer::Bc => self,
-            Pointer::De => self,
+            Pointer::Bc | Pointer::De => self,
             Pointer::Hli => self.with_hl(words::further(1, self.hl())),
             Pointer::Hld => self.with_hl(words::back(1, self.hl())),
         }

@@ -1,4 +1,6 @@
 // Register pairs: BC, DE, HL, SP and, on the stack, AF.
+#![tactic(auto, unfolding(crate::specs::Execute::acts))]
+
 ghost use Rattle.std.specs.Prelude.{◌≡◌};
 ghost use Rattle.machine.specs.State.{hl_of, with_hl, pair_of, with_pair, stacked_of, with_stacked};
 
@@ -48,9 +50,7 @@ impl Cpu {
                 self.h = words::high(w);
                 self.l = words::low(w);
             }
-            Pair::Sp => {
-                self.sp = w;
-            }
+            Pair::Sp => self.sp = w,
         }
         Cpu { ..self }
     }
@@ -59,9 +59,9 @@ impl Cpu {
         ensures { result ≡ stacked_of p self }
     {
         match p {
-            Stacked::Bc => words::word(self.b, self.c),
-            Stacked::De => words::word(self.d, self.e),
-            Stacked::Hl => self.hl(),
+            Stacked::Bc => self.pair(Pair::Bc),
+            Stacked::De => self.pair(Pair::De),
+            Stacked::Hl => self.pair(Pair::Hl),
             Stacked::Af => words::word(self.a, self.f),
         }
     }
@@ -71,23 +71,14 @@ impl Cpu {
         ensures { result ≡ with_stacked p w self }
     {
         match p {
-            Stacked::Bc => {
-                self.b = words::high(w);
-                self.c = words::low(w);
-            }
-            Stacked::De => {
-                self.d = words::high(w);
-                self.e = words::low(w);
-            }
-            Stacked::Hl => {
-                self.h = words::high(w);
-                self.l = words::low(w);
-            }
+            Stacked::Bc => self.with_pair(Pair::Bc, w),
+            Stacked::De => self.with_pair(Pair::De, w),
+            Stacked::Hl => self.with_pair(Pair::Hl, w),
             Stacked::Af => {
                 self.a = words::high(w);
                 self.f = words::low(w) / 16 * 16;
+                Cpu { ..self }
             }
         }
-        Cpu { ..self }
     }
 }

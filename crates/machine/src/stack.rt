@@ -1,45 +1,30 @@
 // The stack: push, pop, call and return.
-ghost use Rattle.std.specs.Prelude.{◌≡◌, length, [], ◌∷◌};
+#![tactic(auto, unfolding(crate::specs::Execute::acts))]
+
+ghost use Rattle.std.specs.Prelude.{◌≡◌};
 ghost use Rattle.arith.specs.Words.{further};
 ghost use Rattle.machine.specs.Answers.{Gives, making};
-ghost use Rattle.machine.specs.Memory.{memory_size, word_at, made};
-ghost use Rattle.machine.specs.Stack.{high_below, low_below, pushed_of, returned_to, called_of};
+ghost use Rattle.machine.specs.Memory.{word_at};
+ghost use Rattle.machine.specs.Stack.{pushed_of, returned_to, called_of};
 ghost use Rattle.machine.specs.State.{with_sp, stacked_of, with_stacked};
 
-use crate::{Cpu, memory};
+use crate::{Cpu, MEMORY_SIZE, memory};
 use arith::words;
 use insn::Stacked;
 
-// The high byte of a word that is pushed goes one below SP.
-pub(crate) fn push_high(mem: &mut [u8], sp: u16, w: u16)
-    requires { length mem.old ≡ memory_size }
-    ensures { mem.new ≡ made (high_below sp w ∷ []) mem.old }
-{
-    memory::store(mem, words::back(1, sp), words::high(w));
-}
-
-// And the low byte one below that.
-pub(crate) fn push_low(mem: &mut [u8], sp: u16, w: u16)
-    requires { length mem.old ≡ memory_size }
-    ensures { mem.new ≡ made (low_below sp w ∷ []) mem.old }
-{
-    memory::store(mem, words::back(2, sp), words::low(w));
-}
-
 impl Cpu {
-    pub(crate) fn push(mut self, w: u16, mem: &mut [u8]) -> Cpu
-        requires { length mem.old ≡ memory_size }
+    // A word pushed: the high byte one below SP, the low byte one below that.
+    pub(crate) fn push(mut self, w: u16, mem: &mut [u8; MEMORY_SIZE]) -> Cpu
         ensures { Gives (making (pushed_of w self) mem.old) result mem.new }
     {
         let sp = self.sp;
-        push_high(mem, sp, w);
-        push_low(mem, sp, w);
+        memory::store(mem, words::back(1, sp), words::high(w));
+        memory::store(mem, words::back(2, sp), words::low(w));
         self.sp = words::back(2, sp);
         Cpu { ..self }
     }
 
-    pub(crate) fn call(mut self, to: u16, mem: &mut [u8]) -> Cpu
-        requires { length mem.old ≡ memory_size }
+    pub(crate) fn call(mut self, to: u16, mem: &mut [u8; MEMORY_SIZE]) -> Cpu
         ensures { Gives (making (called_of to self) mem.old) result mem.new }
     {
         let pc = self.pc;
@@ -56,25 +41,21 @@ impl Cpu {
         Cpu { ..self }
     }
 
-    pub(crate) fn ret(self, mem: &[u8]) -> Cpu
-        requires { length mem.now ≡ memory_size }
+    pub(crate) fn ret(self, mem: &[u8; MEMORY_SIZE]) -> Cpu
         ensures { result ≡ returned_to (word_at mem.now self.sp) self }
     {
         self.return_to(memory::read_word(mem, self.sp))
     }
 
-    pub(crate) fn pop(mut self, p: Stacked, mem: &[u8]) -> Cpu
-        requires { length mem.now ≡ memory_size }
+    pub(crate) fn pop(mut self, p: Stacked, mem: &[u8; MEMORY_SIZE]) -> Cpu
         ensures { result ≡ with_stacked p (word_at mem.now self.sp) (with_sp (further 2 self.sp) self) }
     {
-        let sp = self.sp;
-        let w = memory::read_word(mem, sp);
-        self.sp = words::further(2, sp);
+        let w = memory::read_word(mem, self.sp);
+        self.sp = words::further(2, self.sp);
         self.with_stacked(p, w)
     }
 
-    pub(crate) fn push_pair(self, p: Stacked, mem: &mut [u8]) -> Cpu
-        requires { length mem.old ≡ memory_size }
+    pub(crate) fn push_pair(self, p: Stacked, mem: &mut [u8; MEMORY_SIZE]) -> Cpu
         ensures { Gives (making (pushed_of (stacked_of p self) self) mem.old) result mem.new }
     {
         self.push(self.stacked(p), mem)

@@ -1,10 +1,12 @@
 // Registers and flags: each setter takes the state by value and hands it back with other values. `Cpu { ..self }` hands it back
 // field by field, which the compiler keeps in registers; a changed state that is handed back whole goes through memory.
+#![tactic(auto, unfolding(arith::specs::Flags::flag_of, crate::specs::Execute::acts))]
+
 ghost use Rattle.std.specs.Prelude.{◌≡◌};
 ghost use Rattle.machine.specs.State.{with_pc, with_ime, with_mode, register_of, with_register, met_of};
 
 use crate::{Cpu, Ime, Mode};
-use arith::flags;
+use arith::Flag;
 use insn::{Cond, Register};
 
 impl Cpu {
@@ -15,17 +17,18 @@ impl Cpu {
         Cpu { ..self }
     }
 
-    // IME and the mode are enums, and no field of such a type can be stored to: these two write the state anew.
-    pub(crate) fn with_ime(self, ime: Ime) -> Cpu
+    pub(crate) fn with_ime(mut self, ime: Ime) -> Cpu
         ensures { result ≡ with_ime ime self }
     {
-        Cpu { ime, ..self }
+        self.ime = ime;
+        Cpu { ..self }
     }
 
-    pub(crate) fn with_mode(self, mode: Mode) -> Cpu
+    pub(crate) fn with_mode(mut self, mode: Mode) -> Cpu
         ensures { result ≡ with_mode mode self }
     {
-        Cpu { mode, ..self }
+        self.mode = mode;
+        Cpu { ..self }
     }
 
     pub(crate) fn register(self, r: Register) -> u8
@@ -46,27 +49,13 @@ impl Cpu {
         ensures { result ≡ with_register r v self }
     {
         match r {
-            Register::B => {
-                self.b = v;
-            }
-            Register::C => {
-                self.c = v;
-            }
-            Register::D => {
-                self.d = v;
-            }
-            Register::E => {
-                self.e = v;
-            }
-            Register::H => {
-                self.h = v;
-            }
-            Register::L => {
-                self.l = v;
-            }
-            Register::A => {
-                self.a = v;
-            }
+            Register::B => self.b = v,
+            Register::C => self.c = v,
+            Register::D => self.d = v,
+            Register::E => self.e = v,
+            Register::H => self.h = v,
+            Register::L => self.l = v,
+            Register::A => self.a = v,
         }
         Cpu { ..self }
     }
@@ -76,10 +65,10 @@ impl Cpu {
         ensures { result ≡ met_of cc self.f }
     {
         match cc {
-            Cond::Nz => !flags::zero(self.f),
-            Cond::Z => flags::zero(self.f),
-            Cond::Nc => !flags::carry(self.f),
-            Cond::C => flags::carry(self.f),
+            Cond::Nz => !Flag::Z.is_set(self.f),
+            Cond::Z => Flag::Z.is_set(self.f),
+            Cond::Nc => !Flag::C.is_set(self.f),
+            Cond::C => Flag::C.is_set(self.f),
         }
     }
 }

@@ -11,7 +11,7 @@ use Rattle.arith.specs.Width.{one_if, sum_of, carry_of}
 use Rattle.arith.specs.Flags.{weight_if, flags_of, n_of, h_of, c_of}
 use Rattle.arith.specs.Bytes.{is_zero, added_of}
 use Rattle.arith.specs.Decimal.{adjustment_of, adjusted_of, low_wrong_of, high_wrong_of, after_addition_of, by_last, decimal_of}
-use Rattle.arith.specs.declared.Byte.{Byte}
+use Rattle.arith.specs.Flagged.{Byte}
 use Rattle.arith.proofs.Laws.{one_most, c_back, decimal_fits}
 use Rattle.insn.proofs.Entries.{tabulate, agree}
 use Rattle.routines.specs.Decimals.{Decimal, worth}

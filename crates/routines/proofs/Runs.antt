@@ -11,11 +11,9 @@ use lib.ListN.{length}
 use Rattle.arith.specs.Refusals.{unless_refused, order}
 use Rattle.machine.specs.Answers.{With}
 use Rattle.machine.specs.Memory.{memory_size, Memory}
-use Rattle.machine.specs.Step.{stepped, step_of}
-use Rattle.machine.specs.Run.{largest_budget, ending, while_below, after_step, run_from, run_of, runs}
+use Rattle.machine.specs.Step.{Stepped, stepped, step_of}
+use Rattle.machine.specs.Run.{Ran, largest_budget, ending, while_below, after_step, run_from, run_of, runs}
 use Rattle.machine.specs.declared.Cpu.{Cpu}
-use Rattle.machine.specs.declared.Ran.{Ran}
-use Rattle.machine.specs.declared.Stepped.{Stepped}
 use Rattle.machine.proofs.Refused.{step_least}
 use Rattle.routines.specs.Steps.{dearer, one_more, more_steps, after_steps}
 use Rattle.routines.proofs.Stepping.{first_then}

@@ -5,9 +5,8 @@ use mathlib.Core.Path.{◌≡◌, ◌∙◌}
 use native.Mathlib.Nat.{zero-add, suc-add, add_assoc}
 use Rattle.machine.specs.Answers.{With}
 use Rattle.machine.specs.Memory.{Memory}
-use Rattle.machine.specs.Step.{stepped, step_of}
+use Rattle.machine.specs.Step.{Stepped, stepped, step_of}
 use Rattle.machine.specs.declared.Cpu.{Cpu}
-use Rattle.machine.specs.declared.Stepped.{Stepped}
 use Rattle.routines.specs.Steps.{dearer, one_more, more_steps, after_steps}
 
 -- k steps, all accepted, in j cycles, from one state and memory to another, whatever was spent before

@@ -10,7 +10,7 @@ use Rattle.arith.specs.Flags.{c_of}
 use Rattle.arith.specs.Bytes.{added_of, alu_of, decreased_of}
 use Rattle.arith.specs.Words.{word_of, offset_by, offset_of}
 use Rattle.arith.proofs.Laws.{flags_low}
-use Rattle.arith.specs.declared.Byte.{Byte}
+use Rattle.arith.specs.Flagged.{Byte}
 use Rattle.machine.specs.Memory.{Memory, byte_at, stored}
 use Rattle.routines.specs.Adding.{adding_routine}
 use Rattle.routines.proofs.Stepping.{Takes, ◌then◌}

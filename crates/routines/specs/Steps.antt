@@ -3,9 +3,8 @@
 use Rattle.std.specs.Prelude.{ℕ, zero, suc, ◌+◌}
 use Rattle.machine.specs.Answers.{With}
 use Rattle.machine.specs.Memory.{Memory}
-use Rattle.machine.specs.Step.{stepped, step_of}
+use Rattle.machine.specs.Step.{Stepped, stepped, step_of}
 use Rattle.machine.specs.declared.Cpu.{Cpu}
-use Rattle.machine.specs.declared.Stepped.{Stepped}
 
 -- a step's answer, with the cycles k of the steps before it
 unfoldable pub dearer : ℕ → With Stepped → With Stepped

@@ -9,8 +9,8 @@ use lib.Dec.{ltb}
 use Rattle.machine.specs.Answers.{With}
 use Rattle.machine.specs.Memory.{Memory}
 use Rattle.machine.specs.declared.Cpu.{Cpu}
-use Rattle.machine.specs.declared.Ran.{Ran}
-use Rattle.machine.specs.declared.Stepped.{Stepped}
+use Rattle.machine.specs.Run.{Ran}
+use Rattle.machine.specs.Step.{Stepped}
 use Rattle.routines.specs.Steps.{after_steps}
 use Rattle.runs.specs.Stepwise.{step_after, costs, Stepwise}
 

@@ -11,9 +11,9 @@ use native.Mathlib.Omega.{arith}
 use lib.ListN.{length}
 use Rattle.machine.specs.Answers.{With, Gives}
 use Rattle.machine.specs.Memory.{memory_size, Memory}
-use Rattle.machine.specs.Run.{largest_budget, run_of}
+use Rattle.machine.specs.Run.{Ran, largest_budget, run_of}
+use Rattle.machine.specs.Told.{told_run}
 use Rattle.machine.specs.declared.Cpu.{Cpu}
-use Rattle.machine.specs.declared.Ran.{Ran}
 use Rattle.machine.proofs.run.run.Kinds as kinds
 use Rattle.machine.proofs.run.run.Reads as reads
 use Rattle.routines.specs.Premises.{Given}
@@ -49,13 +49,14 @@ added_given {n} {b} {s} {m} {r = r} g e h =
       mem = g.leaves ∙ ap (λ (w : With Ran). w.mem) whole;
     }
 
--- of the promise itself: a is the state, the memory and the budget, r the answer, e the parameters at exit
+-- of the promise itself: a is the state, the memory and the budget, r the answer, which `told_run` says in numbers, e the parameters at
+-- exit
 module _ (κs : Lfts 1) (a : Dens κs kinds.ps) (r : (res_t kinds.r κs).Denot) (e : AtExit (ended_of 1 kinds.ps kinds.r) κs)
     (promise : reads.Post κs a r e) where
   pub run_is_its_steps : length a.1.0.now ≡ memory_size → a.0.f % 16 ≡ 0 → a.1.1.0 ≤ largest_budget
-      → Stepwise a.1.1.0 a.0 a.1.0.now (record { out = r; mem = e.1.0.now })
+      → Stepwise a.1.1.0 a.0 a.1.0.now (record { out = told_run r; mem = e.1.0.now })
   run_is_its_steps = stepwise_given promise
 
   pub run_adds_up : (n dst src : ℕ) → a.1.1.0 ≡ 13 * n + 4 → Given adding_routine n a.0 a.1.0.now dst src
-      → AddedBy n a.0 a.1.0.now dst src r e.1.0.now
+      → AddedBy n a.0 a.1.0.now dst src (told_run r) e.1.0.now
   run_adds_up n dst src = added_given promise

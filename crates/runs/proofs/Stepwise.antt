@@ -11,11 +11,9 @@ use lib.Dec.{eqb, leb, ltb}
 use lib.ListN.{length}
 use Rattle.machine.specs.Answers.{With}
 use Rattle.machine.specs.Memory.{memory_size, Memory}
-use Rattle.machine.specs.Step.{stepped, step_of}
-use Rattle.machine.specs.Run.{largest_budget, ending, run_from, run_of}
+use Rattle.machine.specs.Step.{Stepped, stepped, step_of}
+use Rattle.machine.specs.Run.{Ran, largest_budget, ending, run_from, run_of}
 use Rattle.machine.specs.declared.Cpu.{Cpu}
-use Rattle.machine.specs.declared.Ran.{Ran}
-use Rattle.machine.specs.declared.Stepped.{Stepped}
 use Rattle.machine.proofs.Costs.{step_paid}
 use Rattle.machine.proofs.Runs.{run_on, run_over, run_refused, run_goes, run_unfit, run_flags, run_budget, run_valid, Told, run_code}
 use Rattle.routines.specs.Steps.{dearer, one_more, more_steps, after_steps}

@@ -3,7 +3,7 @@
 use Rattle.std.specs.Prelude.{ℕ, ◌+◌, ◌*◌, ◌≡◌}
 use Rattle.machine.specs.Memory.{Memory}
 use Rattle.machine.specs.declared.Cpu.{Cpu}
-use Rattle.machine.specs.declared.Ran.{Ran}
+use Rattle.machine.specs.Run.{Ran}
 use Rattle.routines.specs.Adding.{Added}
 
 pub record AddedBy (n : ℕ) (s : Cpu) (m : Memory) (dst src : ℕ) (r : Ran) (left : Memory) : Type 0 where

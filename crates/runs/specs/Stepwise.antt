@@ -4,10 +4,9 @@
 use Rattle.std.specs.Prelude.{ℕ, zero, suc, ◌+◌, ◌<◌, ◌≤◌, ◌≢◌, ◌≡◌}
 use Rattle.machine.specs.Answers.{With}
 use Rattle.machine.specs.Memory.{Memory}
-use Rattle.machine.specs.Step.{stepped, step_of}
+use Rattle.machine.specs.Step.{Stepped, stepped, step_of}
 use Rattle.machine.specs.declared.Cpu.{Cpu}
-use Rattle.machine.specs.declared.Ran.{Ran}
-use Rattle.machine.specs.declared.Stepped.{Stepped}
+use Rattle.machine.specs.Run.{Ran}
 use Rattle.routines.specs.Steps.{after_steps}
 
 -- the step that follows k steps

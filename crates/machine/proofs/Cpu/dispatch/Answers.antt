@@ -10,9 +10,13 @@ returns c =
     rw (
       c.vector.ensures,
       made_append,
-      c.push_low.ensures,
+      c.store-2.ensures,
       c.choose-to.ensures.answers,
       c.choose-to.ensures.leaves,
-      c.push_high.ensures,
+      c.store.ensures,
+      c.low.ensures,
+      c.back-2.ensures,
+      c.high.ensures,
+      c.back.ensures,
     )
     exactly

@@ -21,17 +21,17 @@ fetched : (s : Cpu) (m : Memory) (rest op n8 n16 : ℕ) (d : Decoded) → rest �
     → d ≡ decoded_of (byte_at m s.pc) (byte_at m (next_rest s)) (word_at m (next_rest s))
 fetched s m rest op n8 n16 d r o e w h = rw (w, e, o, r) at h
 
-pub returns-then-cycles-eq0 : goal.returns-then-cycles-eq0
-returns-then-cycles-eq0 c =
+pub returns-then-d-eq0 : goal.returns-then-d-eq0
+returns-then-d-eq0 c =
     let a = c.args in
     let d =
     fetched a.self a.mem.now _ _ _ _ _ c.requires.rest_value c.read-op.ensures c.read-n8.ensures c.read_word-n16.ensures
     c.decode-d.ensures
     in
-    rw (undefined_here a.self a.mem.now c.decode-d.result d c.if-cycles-eq0.true, c.refuse.ensures) exactly
+    rw (undefined_here a.self a.mem.now c.decode-d.result d c.if-d-eq0.true, c.refuse.ensures) exactly
 
-pub accepted-requires : goal.accepted-requires
-accepted-requires c =
+pub overflow_add-result : goal.overflow_add-result
+overflow_add-result c =
     let a = c.args in
     let d =
     fetched a.self a.mem.now _ _ _ _ _ c.requires.rest_value c.read-op.ensures c.read-n8.ensures c.read_word-n16.ensures
@@ -39,7 +39,7 @@ accepted-requires c =
     in
     omega (
       arith,
-      ap (λ (r : Done). r.extra) c.execute.ensures.answers,
+      ap (λ (r : Done). r.extra) c.execute-done.ensures.answers,
       insn_most a.self.pc c.decode-d.result.insn c.ready.result a.mem.now,
       cycles_told a.self a.mem.now c.decode-d.result d,
     )
@@ -53,5 +53,5 @@ returns c =
     c.decode-d.ensures
     in
     let on = c.further.ensures ∙ ap (further c.decode-d.result.more) c.requires.rest_value in
-    rw (runs_here a.self a.mem.now c.decode-d.result d a.ime c.requires.settled_by c.if-cycles-eq0.false)
-    (rw (c.accepted.ensures, c.execute.ensures.answers, c.execute.ensures.leaves, c.ready.ensures, on) exactly)
+    rw (runs_here a.self a.mem.now c.decode-d.result d a.ime c.requires.settled_by c.if-d-eq0.false)
+    (rw (c.execute-done.ensures.answers, c.execute-done.ensures.leaves, c.ready.ensures, on) exactly)

@@ -1,6 +1,0 @@
--- `rotate` meets its contract.
-use Rattle.machine.proofs.Gives.{exactly}
-use Rattle.machine.proofs.Cpu.rotate.Goals as goal
-
-pub returns : goal.returns
-returns c = simp (c.update.ensures.answers, c.rotate.ensures, c.carry.ensures, c.held-v.ensures, c.update.ensures.leaves) exactly

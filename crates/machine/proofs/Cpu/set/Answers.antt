@@ -1,6 +1,0 @@
--- `set` meets its contract.
-use Rattle.machine.proofs.Gives.{exactly}
-use Rattle.machine.proofs.Cpu.set.Goals as goal
-
-pub returns : goal.returns
-returns c = simp (c.place.ensures.answers, c.set.ensures, c.held-v.ensures, c.place.ensures.leaves) exactly
