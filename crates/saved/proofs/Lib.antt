@@ -5,4 +5,5 @@ pub mod Accepted
 pub mod Refused
 pub mod Written
 pub mod RoundTrip
+pub mod Told
 pub mod Unique

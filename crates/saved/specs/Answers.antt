@@ -1,16 +1,27 @@
 -- What loading and saving answer, and what a save leaves in the slice that it was lent. Document 01, "Saved state" and
 -- "Refusal numbers".
 -- Assumes nothing.
-use Rattle.std.specs.Prelude.{ℕ, ◌+◌, List, [], ◌≡◌}
+use Rattle.std.specs.Prelude.{ℕ, ◌+◌, Bool, true, false, List, [], ◌≡◌, Result, Ok, Err}
 use Rattle.std.specs.Borrow.{Bor}
+use Rattle.arith.specs.Numbers.{number_of}
 use Rattle.arith.specs.Refusals.{unless_refused}
+use Rattle.arith.specs.declared.Refusal.{Refusal}
 use Rattle.machine.specs.Memory.{Memory}
 use Rattle.machine.specs.Answers.{With}
 use Rattle.machine.specs.declared.Cpu.{Cpu}
-use Rattle.saved.specs.Block.{cleared_state}
+use Rattle.saved.specs.Block.{has_codes, held_in, cleared_state}
 use Rattle.saved.specs.Head.{head_size, image_size, head_of, image_of, state_in, memory_in}
 use Rattle.saved.specs.Refusals.{load_code, save_head_code, save_image_code}
-use Rattle.saved.specs.declared.Loaded.{Loaded}
+
+-- what a load answers: its number, and the state, which is all zero where the number is not 0
+pub record Loaded : Type 0 where
+  pub code : ℕ
+  pub cpu : Cpu
+
+-- the same of the answer as the code has it: a state or a refusal
+abbrev pub told_load : Result Cpu Refusal → Loaded
+told_load (Ok s) = record { code = 0; cpu = s }
+told_load (Err r) = record { code = number_of r; cpu = cleared_state }
 
 -- a state where nothing is refused, and the all-zero state where something is
 unfoldable pub state_if : ℕ → List ℕ → Cpu
@@ -33,6 +44,14 @@ load_head_of h = load_of head_size h
 -- opening a whole image: the code, the state and the memory, which is a part of the image
 unfoldable pub open_of : List ℕ → With Loaded
 open_of image = record { out = load_of image_size image; mem = memory_if (load_code image_size image) image }
+
+-- reading a block alone: 9 where its codes stand for nothing
+abbrev pub read_if : Bool → List ℕ → Loaded
+read_if true b = record { code = 0; cpu = held_in b }
+read_if false b = record { code = 9; cpu = cleared_state }
+
+abbrev pub read_of : List ℕ → Loaded
+read_of b = read_if (has_codes b) b
 
 -- where the memory starts in an image: after the head, and at the front where the part is empty
 unfoldable pub start_if : ℕ → ℕ

@@ -1,23 +1,20 @@
 // The state block: A F B C D E H L, SP, PC, the codes of IME and mode.
 ghost use Rattle.std.specs.Prelude.{◌≡◌};
-ghost use Rattle.saved.specs.Block.{block_of, has_codes, held_in, cleared_state};
+ghost use Rattle.saved.specs.Answers.{told_load, read_of};
+ghost use Rattle.saved.specs.Block.{block_of, has_codes, held_in};
 
-use crate::codes;
-use arith::words;
-use machine::{Cpu, Ime, Mode};
+use crate::{BLOCK_SIZE, codes};
+use arith::{Refusal, words};
+use machine::Cpu;
 
 // The block of a state.
-pub fn bytes_of(cpu: Cpu) -> [u8; 14]
+pub fn bytes_of(cpu: Cpu) -> [u8; BLOCK_SIZE]
     ensures { result ≡ block_of cpu }
 {
-    let ime = cpu.ime;
-    let mode = cpu.mode;
-    let ime_code = codes::ime_code(ime);
-    let mode_code = codes::mode_code(mode);
-    let sp_high = words::high(cpu.sp);
-    let sp_low = words::low(cpu.sp);
-    let pc_high = words::high(cpu.pc);
-    let pc_low = words::low(cpu.pc);
+    let [sp_high, sp_low] = cpu.sp.to_be_bytes();
+    let [pc_high, pc_low] = cpu.pc.to_be_bytes();
+    let ime_code = codes::ime_code(cpu.ime);
+    let mode_code = codes::mode_code(cpu.mode);
     [
         cpu.a, cpu.f, cpu.b, cpu.c, cpu.d, cpu.e, cpu.h, cpu.l, sp_high, sp_low, pc_high, pc_low,
         ime_code, mode_code,
@@ -25,52 +22,55 @@ pub fn bytes_of(cpu: Cpu) -> [u8; 14]
 }
 
 // The codes of IME and mode stand for something.
-pub fn has_codes(block: &[u8; 14]) -> bool
+pub fn has_codes(block: &[u8; BLOCK_SIZE]) -> bool
     ensures { result ≡ has_codes block.now }
 {
-    (block[12] <= 2) & (block[13] <= 3)
+    block[12] <= 2 && block[13] <= 3
 }
 
 // The state that a block holds.
-pub fn state_of(block: &[u8; 14]) -> Cpu
+pub fn state_of(block: &[u8; BLOCK_SIZE]) -> Cpu
     ensures { result ≡ held_in block.now }
 {
-    let ime = codes::ime_at(block[12]);
-    let mode = codes::mode_at(block[13]);
-    let sp = words::word(block[8], block[9]);
-    let pc = words::word(block[10], block[11]);
-    Cpu {
-        a: block[0],
-        f: block[1],
-        b: block[2],
-        c: block[3],
-        d: block[4],
-        e: block[5],
-        h: block[6],
-        l: block[7],
-        sp,
-        pc,
+    let &[
+        a,
+        f,
+        b,
+        c,
+        d,
+        e,
+        h,
+        l,
+        sp_high,
+        sp_low,
+        pc_high,
+        pc_low,
         ime,
         mode,
+    ] = block;
+    Cpu {
+        a,
+        f,
+        b,
+        c,
+        d,
+        e,
+        h,
+        l,
+        sp: words::word(sp_high, sp_low),
+        pc: words::word(pc_high, pc_low),
+        ime: codes::ime_at(ime),
+        mode: codes::mode_at(mode),
     }
 }
 
-// The all-zero state.
-pub(crate) fn cleared_state() -> Cpu
-    ensures { result ≡ cleared_state }
+// The state of a block whose codes stand for something. Refusal 9.
+pub fn read(block: &[u8; BLOCK_SIZE]) -> Result<Cpu, Refusal>
+    ensures { told_load result ≡ read_of block.now }
 {
-    Cpu {
-        a: 0,
-        f: 0,
-        b: 0,
-        c: 0,
-        d: 0,
-        e: 0,
-        h: 0,
-        l: 0,
-        sp: 0,
-        pc: 0,
-        ime: Ime::Off,
-        mode: Mode::Running,
+    if has_codes(block) {
+        Ok(state_of(block))
+    } else {
+        Err(Refusal::Codes)
     }
 }

@@ -4,6 +4,7 @@ ghost use Rattle.saved.specs.Codes.{ime_code, ime_at, mode_code, mode_at};
 
 use machine::{Ime, Mode};
 
+// Stays: tried, `impl From<Ime> for u8` is refused outside `machine`, which declares Ime and knows nothing of the saved form.
 pub fn ime_code(ime: Ime) -> u8
     ensures { result ≡ ime_code ime }
 {
@@ -14,7 +15,7 @@ pub fn ime_code(ime: Ime) -> u8
     }
 }
 
-// A code above 2 stands for none: callers refuse it before.
+// Stays: `block::state_of` promises a state for every block, so no TryFrom; a code above 2 is refused by `block::read`.
 pub(crate) fn ime_at(code: u8) -> Ime
     ensures { result ≡ ime_at code }
 {
@@ -25,6 +26,7 @@ pub(crate) fn ime_at(code: u8) -> Ime
     }
 }
 
+// Stays: as `ime_code`.
 pub fn mode_code(mode: Mode) -> u8
     ensures { result ≡ mode_code mode }
 {
@@ -36,7 +38,7 @@ pub fn mode_code(mode: Mode) -> u8
     }
 }
 
-// A code above 3 stands for none: callers refuse it before.
+// Stays: as `ime_at`; a code above 3 is refused by `block::read`.
 pub(crate) fn mode_at(code: u8) -> Mode
     ensures { result ≡ mode_at code }
 {

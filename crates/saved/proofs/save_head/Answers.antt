@@ -1,29 +1,25 @@
 -- `save_head` writes a whole head where nothing is refused.
-use mathlib.Core.Path.{◌≡◌, refl, sym, ap, ◌∙◌}
+use mathlib.Core.Path.{sym, ap, ◌∙◌}
 use native.Mathlib.Omega.{arith}
 use lib.ListN.{length}
-use Rattle.arith.specs.Refusals.{unless_refused}
-use Rattle.saved.specs.Refusals.{Accepted, save_head_code}
-use Rattle.saved.specs.Answers.{save_head_of, saved_by, left_by}
+use Rattle.std.proofs.lemmas.Result.{err_from_is_err_and}
+use Rattle.saved.specs.Answers.{save_head_of}
 use Rattle.saved.proofs.Accepted.{accepted_head_fits}
-use Rattle.saved.proofs.Refused.{refused_left}
+use Rattle.saved.proofs.Told.{unsaved, was_saved}
 use Rattle.saved.proofs.Written.{head_length}
 use Rattle.saved.proofs.save_head.Goals as goal
 
 pub copy_from_slice-requires : goal.copy_from_slice-requires
 copy_from_slice-requires c =
-    let accepted : Accepted (save_head_code c.args.cpu c.args.head.now) = omega arith in
-    let size = ap length c.bytes_of-made.ensures ∙ head_length c.args.cpu in
-    omega (arith, size, (accepted_head_fits _ _ accepted).size_is)
+    let size = ap length c.bytes_of.ensures ∙ head_length c.args.cpu in
+    omega (arith, size, (accepted_head_fits _ _ (sym c.in_ok-head_fits.ensures)).size_is)
 
-pub returns-then-head_refusal-eq0 : goal.returns-then-head_refusal-eq0
-unfolding save_head_of saved_by left_by unless_refused
-returns-then-head_refusal-eq0 c =
-    let accepted : save_head_code c.args.cpu c.args.head.now ≡ 0 = omega arith in
-    record { answers = sym accepted; leaves = rw (accepted, c.copy_from_slice.ensures.after, c.bytes_of-made.ensures) }
+pub returns-in_err-head_fits : goal.returns-in_err-head_fits
+unfolding save_head_of
+returns-in_err-head_fits c =
+    let p = err_from_is_err_and c.from_residual.result c.from_residual.ensures.1 in
+    rw (p.1, p.2) (unsaved c.in_err-head_fits.field-0.0 _ _ _ c.in_err-head_fits.ensures)
 
 pub returns : goal.returns
-unfolding save_head_of saved_by
-returns c =
-    rw (← c.save_head_refusal-head_refusal.ensures)
-    (record { answers = refl; leaves = sym (refused_left _ c.if-head_refusal-eq0.false _ _) })
+unfolding save_head_of
+returns c = was_saved _ _ _ _ (sym c.in_ok-head_fits.ensures) (c.copy_from_slice.ensures.after ∙ c.bytes_of.ensures)

@@ -1,15 +1,14 @@
 -- `bytes_of` writes each field at its place.
+use Rattle.arith.specs.Words.{high_of, low_of}
 use Rattle.saved.specs.Block.{block_of}
 use Rattle.saved.proofs.block.bytes_of.Goals as goal
 
 pub returns : goal.returns
-unfolding block_of
+unfolding block_of high_of low_of
 returns c =
     simp (
-      c.low-pc_low.ensures,
-      c.high-pc_high.ensures,
-      c.low-sp_low.ensures,
-      c.high-sp_high.ensures,
+      c.to_be_bytes.ensures,
+      c.to_be_bytes-2.ensures,
       c.mode_code-mode_code.ensures,
       c.ime_code-ime_code.ensures,
     )

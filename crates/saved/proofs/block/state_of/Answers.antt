@@ -5,5 +5,4 @@ use Rattle.saved.proofs.block.state_of.Goals as goal
 
 pub returns : goal.returns
 unfolding held_in byte_in flags_in ime_code_in mode_code_in
-returns c =
-    rw (c.ime_at-ime.ensures, c.mode_at-mode.ensures, c.word-sp.ensures, c.word-pc.ensures)
+returns c = rw (c.ime_at.ensures, c.mode_at.ensures, c.word.ensures, c.word-2.ensures)

@@ -6,4 +6,12 @@ use Rattle.saved.proofs.head.bytes_of.Goals as goal
 
 pub returns : goal.returns
 unfolding head_of block_of bytes_of digits_of
-returns c = rw c.bytes_of-block.ensures
+returns c =
+    rw (
+      c.copy_from_slice.ensures.after,
+      c.to_be_bytes.ensures,
+      c.copy_from_slice-2.ensures.after,
+      c.bytes_of.ensures,
+      c.copy_from_slice-3.ensures.after,
+      c.to_be_bytes-2.ensures,
+    )

@@ -1,8 +1,8 @@
--- `flags_refusal` refuses an F whose low four bits are not 0.
+-- `flags_fit` refuses an F whose low four bits are not 0.
 use borrow.Author.Tests.{eq-eqb, ne_eqb}
 use Rattle.arith.specs.Refusals.{order}
 use Rattle.saved.specs.Refusals.{flags_refusals}
-use Rattle.saved.proofs.head.flags_refusal.Goals as goal
+use Rattle.saved.proofs.head.flags_fit.Goals as goal
 
 pub returns-then-f-eq0 : goal.returns-then-f-eq0
 unfolding order flags_refusals

@@ -1,8 +1,8 @@
--- `save_image_refusal` tests the length of the image, that of the memory, then F.
+-- `image_fits` tests the length of the image, that of the memory, then F.
 use borrow.Author.Tests.{eq-eqb, ne_eqb}
 use Rattle.arith.specs.Refusals.{number_or, code_of}
 use Rattle.saved.specs.Refusals.{save_image_refusals, save_image_code}
-use Rattle.saved.proofs.save_image_refusal.Goals as goal
+use Rattle.saved.proofs.image_fits.Goals as goal
 
 pub returns-then-image-ne-IMAGE_SIZE : goal.returns-then-image-ne-IMAGE_SIZE
 unfolding save_image_code save_image_refusals code_of number_or
@@ -14,4 +14,4 @@ returns-then-mem-ne-MEMORY_SIZE c = rw (eq-eqb _ _ c.if-image-ne-IMAGE_SIZE.fals
 
 pub returns : goal.returns
 unfolding save_image_code save_image_refusals code_of number_or
-returns c = rw (c.flags_refusal.ensures, eq-eqb _ _ c.if-image-ne-IMAGE_SIZE.false, eq-eqb _ _ c.if-mem-ne-MEMORY_SIZE.false)
+returns c = rw (c.flags_fit.ensures, eq-eqb _ _ c.if-image-ne-IMAGE_SIZE.false, eq-eqb _ _ c.if-mem-ne-MEMORY_SIZE.false)
