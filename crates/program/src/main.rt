@@ -4,10 +4,12 @@
 
 ghost use Rattle.std.specs.Prelude.{◌≤◌, length};
 
-use std::io::{ErrorKind, Read, Stdin, Stdout, Write};
-use text::answer;
+use std::io::{self, ErrorKind, Read, Stdin, Stdout, Write};
+use text::Text;
+use text::answer::{self, LEAD_SIZE};
 
 // Reads until buf is full, the input ends or a read fails, and says how many bytes it put at the start of buf.
+// Stays: `read_exact` does not say how many bytes it read, and what follows the end of an input that goes on counts with them.
 fn read_full(input: &mut Stdin, buf: &mut [u8]) -> usize
     ensures { result ≤ length buf.new }
 {
@@ -19,26 +21,21 @@ fn read_full(input: &mut Stdin, buf: &mut [u8]) -> usize
         match input.read(&mut buf[done..]) {
             Ok(0) => break,
             Ok(n) => done += n,
-            Err(error) => {
-                if error.kind() != ErrorKind::Interrupted {
-                    break;
-                }
-            }
+            Err(error) if error.kind() == ErrorKind::Interrupted => {}
+            Err(_) => break,
         }
     }
     done
 }
 
-// The first len of the bytes, to standard output; false where they cannot be written.
-fn print(output: &mut Stdout, bytes: &[u8], len: usize) -> bool {
-    if len <= bytes.len() {
-        return output.write_all(&bytes[..len]).is_ok();
-    }
-    false
+// The text, which fits whole (the law `two_lines`), to standard output.
+fn print(output: &mut Stdout, text: &Text) -> io::Result<()> {
+    let len = text.len.min(text.bytes.len());
+    output.write_all(&text.bytes[..len])
 }
 
 fn main(rt: HostRuntime) {
-    let mut lead = [0u8; 27];
+    let mut lead = [0u8; LEAD_SIZE];
     let mut memory = [0u8; 65536];
     // One byte more than the input has, to see that it is too long.
     let mut past = [0u8; 1];
@@ -57,8 +54,7 @@ fn main(rt: HostRuntime) {
         }
     };
     let text = answer::answer(first + second + third, &lead, &mut memory);
-    let bytes = text.bytes;
-    if !print(&mut rt.stdout(), &bytes, text.len) {
+    if print(&mut rt.stdout(), &text).is_err() {
         let _ = rt
             .stderr()
             .write_all(b"program: the output cannot be written\n");

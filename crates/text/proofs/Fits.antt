@@ -14,7 +14,7 @@ use Rattle.digits.specs.Ascii.{ascii}
 use Rattle.digits.specs.Numerals.{hex_text}
 use Rattle.digits.proofs.Decimal.{decimal_most}
 use Rattle.machine.specs.declared.Cpu.{Cpu}
-use Rattle.machine.specs.declared.Ran.{Ran}
+use Rattle.machine.specs.Run.{Ran}
 use Rattle.saved.specs.Codes.{ime_code, mode_code}
 use Rattle.text.specs.Written.{room, empty_text, pushed_if, pushed, written}
 use Rattle.text.specs.Answer.{header, number_then, word_then, refusal_line, registers_line, run_line, line_if, printed}

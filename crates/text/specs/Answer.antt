@@ -9,9 +9,8 @@ use Rattle.digits.specs.Ascii.{ascii, space, newline}
 use Rattle.digits.specs.Numerals.{hex_text, decimal_text}
 use Rattle.machine.specs.Memory.{Memory, memory_size}
 use Rattle.machine.specs.Answers.{With, keeping}
-use Rattle.machine.specs.Run.{run_of}
+use Rattle.machine.specs.Run.{Ran, run_of}
 use Rattle.machine.specs.declared.Cpu.{Cpu}
-use Rattle.machine.specs.declared.Ran.{Ran}
 use Rattle.saved.specs.Answers.{load_head_of}
 use Rattle.saved.specs.Codes.{ime_code, mode_code}
 use Rattle.saved.specs.Head.{head_size}

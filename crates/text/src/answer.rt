@@ -1,20 +1,21 @@
 // What the program answers to its input.
-ghost use Rattle.std.specs.Prelude.{◌≡◌, ◌++◌};
+ghost use Rattle.std.specs.Prelude.{◌≡◌};
+ghost use Rattle.arith.specs.Numbers.{number_of};
 ghost use Rattle.machine.specs.Answers.{Gives};
+ghost use Rattle.machine.specs.Told.{number_if, told_run};
 ghost use Rattle.text.specs.Written.{written};
-ghost use Rattle.text.specs.Answer.{refusal_line, registers_line, run_line, is_bare, line_if, printed, ran_text, answer_of};
+ghost use Rattle.text.specs.Answer.{refusal_line, registers_line, run_line, is_bare, printed, ran_text, answer_of};
 
 use crate::Text;
-use crate::writing::NEWLINE;
-use arith::words;
+use arith::{Refusal, words};
 use digits::numbers;
-use machine::{Cpu, Ran, run};
-use saved::codes;
+use machine::{Cpu, MEMORY_SIZE, Ran, run};
+use saved::{HEAD_SIZE, codes};
 
-// The bytes of the input, and of the budget and the head that lead it.
-const INPUT_SIZE: usize = 65_563;
+// The bytes of the budget and the head that lead the input, and of the input.
+pub const LEAD_SIZE: usize = 4 + HEAD_SIZE;
 
-const LEAD_SIZE: usize = 27;
+const INPUT_SIZE: usize = LEAD_SIZE + MEMORY_SIZE;
 
 // A text that begins with the header line.
 fn header() -> Text
@@ -24,10 +25,10 @@ fn header() -> Text
 }
 
 // The code alone.
-fn refusal(code: u8) -> Text
-    ensures { result ≡ printed (refusal_line code) }
+fn refusal(refused: Refusal) -> Text
+    ensures { result ≡ printed (refusal_line (number_of refused)) }
 {
-    header().decimal(code as u32).push(NEWLINE)
+    header().decimal(u32::from(u8::from(refused))).push(b'\n')
 }
 
 impl Text {
@@ -35,8 +36,8 @@ impl Text {
     fn registers(self, s: Cpu) -> Text
         ensures { result ≡ written (registers_line s) self }
     {
-        let front = self.word(words::word(s.a, s.f)).word(words::word(s.b, s.c));
-        front
+        self.word(words::word(s.a, s.f))
+            .word(words::word(s.b, s.c))
             .word(words::word(s.d, s.e))
             .word(words::word(s.h, s.l))
             .word(s.sp)
@@ -44,37 +45,42 @@ impl Text {
     }
 }
 
-fn line(r: Ran) -> Text
-    ensures { result ≡ printed (run_line r) }
+// The number of a run's end.
+fn code(refusal: Option<Refusal>) -> u8
+    ensures { result ≡ number_if refusal }
 {
-    let s = r.cpu;
-    let ime = s.ime;
-    let mode = s.mode;
-    let counts = header()
-        .number(r.code as u32)
-        .number(r.spent)
-        .number(r.steps);
-    counts
-        .registers(s)
-        .number(codes::ime_code(ime) as u32)
-        .decimal(codes::mode_code(mode) as u32)
-        .push(NEWLINE)
+    refusal.map_or(0, u8::from)
 }
 
-fn is_bare(code: u8) -> bool
-    ensures { result ≡ is_bare code }
+fn line(r: Ran) -> Text
+    ensures { result ≡ printed (run_line (told_run r)) }
 {
-    (code == 1) | ((code == 2) | (code == 5))
+    header()
+        .number(u32::from(code(r.refusal)))
+        .number(r.spent)
+        .number(r.steps)
+        .registers(r.cpu)
+        .number(u32::from(codes::ime_code(r.cpu.ime)))
+        .decimal(u32::from(codes::mode_code(r.cpu.mode)))
+        .push(b'\n')
+}
+
+// What a run is refused with before its first step is printed alone.
+fn is_bare(refused: Refusal) -> bool
+    ensures { result ≡ is_bare (number_of refused) }
+{
+    matches!(
+        refused,
+        Refusal::MemoryLength | Refusal::LowFlags | Refusal::Budget
+    )
 }
 
 fn ran(r: Ran) -> Text
-    ensures { result ≡ ran_text r }
+    ensures { result ≡ ran_text (told_run r) }
 {
-    let code = r.code;
-    if is_bare(code) {
-        refusal(code)
-    } else {
-        line(r)
+    match r.refusal {
+        Some(refused) if is_bare(refused) => refusal(refused),
+        _ => line(r),
     }
 }
 
@@ -82,18 +88,12 @@ fn ran(r: Ran) -> Text
 pub fn answer(got: usize, lead: &[u8], mem: &mut [u8]) -> Text
     ensures { Gives (answer_of got lead.now mem.old) result mem.new }
 {
-    if got != INPUT_SIZE {
-        return refusal(6);
-    }
-    if lead.len() != LEAD_SIZE {
-        return refusal(6);
+    if got != INPUT_SIZE || lead.len() != LEAD_SIZE {
+        return refusal(Refusal::Length);
     }
     let budget = numbers::number(lead[0], lead[1], lead[2], lead[3]);
-    let loaded = saved::load_head(&lead[4..]);
-    let code = loaded.code;
-    let cpu = loaded.cpu;
-    if code != 0 {
-        return refusal(code);
+    match saved::load_head(&lead[4..]) {
+        Ok(cpu) => ran(run::run(cpu, mem, budget)),
+        Err(refused) => refusal(refused),
     }
-    ran(run::run(cpu, mem, budget))
 }

@@ -4,20 +4,16 @@ ghost use Rattle.digits.specs.Numerals.{glyph_of, decimal_text};
 ghost use Rattle.text.specs.Written.{empty_text, pushed, written};
 ghost use Rattle.text.specs.Answer.{number_then, word_then};
 
-use crate::Text;
+use crate::{ROOM, Text};
 use digits::glyphs;
 
-// What stands between the entries of a line, and what ends it.
-const SPACE: u8 = 32;
-
-pub(crate) const NEWLINE: u8 = 10;
-
+// Stays: `two_lines` is of a text of fixed room, and `write!` to a String would allocate.
 impl Text {
     pub(crate) fn new() -> Text
         ensures { result ≡ empty_text }
     {
         Text {
-            bytes: [0u8; 160],
+            bytes: [0u8; ROOM],
             len: 0,
         }
     }
@@ -27,25 +23,20 @@ impl Text {
         ensures { result ≡ pushed b self }
     {
         let at = self.len;
-        if at < 160 {
+        if at < ROOM {
             self.bytes[at] = b;
             self.len = at + 1;
-            return self;
         }
         self
     }
 
-    pub(crate) fn append(self, s: &[u8]) -> Text
+    pub(crate) fn append(mut self, s: &[u8]) -> Text
         ensures { result ≡ written s.now self }
     {
-        let mut t = self;
-        let mut i = 0;
-        while i < s.len() {
-            let next = t.push(s[i]);
-            t = next;
-            i += 1;
+        for &b in s {
+            self = self.push(b);
         }
-        t
+        self
     }
 
     // The digit of n that counts p, where n reaches p.
@@ -60,35 +51,30 @@ impl Text {
     }
 
     // From the highest digit that is not 0 on; the last is always there.
-    pub(crate) fn decimal(self, n: u32) -> Text
+    pub(crate) fn decimal(mut self, n: u32) -> Text
         ensures { result ≡ written (decimal_text n) self }
     {
-        let mut t = self;
-        let mut p = 1_000_000_000;
-        while 1 < p {
-            let next = t.digit(n, p);
-            t = next;
-            p /= 10;
+        for place in 0..9 {
+            self = self.digit(n, 10_u32.pow(9 - place));
         }
-        t.push(glyphs::glyph((n % 10) as u8))
+        self.push(glyphs::glyph((n % 10) as u8))
     }
 
     // A number and a space.
     pub(crate) fn number(self, n: u32) -> Text
         ensures { result ≡ written (number_then n) self }
     {
-        self.decimal(n).push(SPACE)
+        self.decimal(n).push(b' ')
     }
 
     // A word in four hexadecimal digits and a space.
     pub(crate) fn word(self, w: u16) -> Text
         ensures { result ≡ written (word_then w) self }
     {
-        let high = self
-            .push(glyphs::glyph((w / 4096 % 16) as u8))
-            .push(glyphs::glyph((w / 256 % 16) as u8));
-        high.push(glyphs::glyph((w / 16 % 16) as u8))
+        self.push(glyphs::glyph((w / 4096 % 16) as u8))
+            .push(glyphs::glyph((w / 256 % 16) as u8))
+            .push(glyphs::glyph((w / 16 % 16) as u8))
             .push(glyphs::glyph((w % 16) as u8))
-            .push(SPACE)
+            .push(b' ')
     }
 }

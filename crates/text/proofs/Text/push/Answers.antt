@@ -3,10 +3,10 @@ use borrow.Author.Tests.{lt-ltb, le-ltb}
 use Rattle.text.specs.Written.{pushed_if, pushed}
 use Rattle.text.proofs.Text.push.Goals as goal
 
-pub returns-then-at-lt160 : goal.returns-then-at-lt160
+pub returns-then-at-lt-ROOM : goal.returns-then-at-lt-ROOM
 unfolding pushed_if pushed
-returns-then-at-lt160 c = rw (lt-ltb _ 160 c.if-at-lt160.true)
+returns-then-at-lt-ROOM c = rw (lt-ltb _ 160 c.if-at-lt-ROOM.true)
 
-pub returns : goal.returns
+pub returns-else-at-lt-ROOM : goal.returns-else-at-lt-ROOM
 unfolding pushed_if pushed
-returns c = rw (le-ltb _ 160 c.if-at-lt160.false)
+returns-else-at-lt-ROOM c = rw (le-ltb _ 160 c.if-at-lt-ROOM.false)

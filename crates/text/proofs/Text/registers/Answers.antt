@@ -7,13 +7,13 @@ pub returns : goal.returns
 unfolding registers_line
 returns c =
     simp (
+      c.word-10.ensures,
       c.word-9.ensures,
       c.word-8.ensures,
       c.word-7.ensures,
       c.word-6.ensures,
       c.word-5.ensures,
       c.word-4.ensures,
-      c.word-front.ensures,
       c.word-3.ensures,
       c.word-2.ensures,
       c.word.ensures,

@@ -10,12 +10,12 @@ pub returns : goal.returns
 unfolding word_then hex_text digits_of written
 returns c =
     simp (
+      c.push-5.ensures,
       c.push-4.ensures,
-      c.push-3.ensures,
       c.glyph-4.ensures,
-      c.push-2.ensures,
+      c.push-3.ensures,
       c.glyph-3.ensures,
-      c.push-high.ensures,
+      c.push-2.ensures,
       c.glyph-2.ensures,
       c.push.ensures,
       c.glyph.ensures,

@@ -6,4 +6,4 @@ use Rattle.text.proofs.answer.refusal.Goals as goal
 
 pub returns : goal.returns
 unfolding refusal_line printed written
-returns c = simp (c.push.ensures, c.decimal.ensures, c.header.ensures, written_append)
+returns c = simp (c.push.ensures, c.decimal.ensures, c.header.ensures, c.from.ensures, c.from-2.ensures, written_append)
