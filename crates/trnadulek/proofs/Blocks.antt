@@ -12,9 +12,8 @@ use Rattle.machine.specs.Answers.{With, Gives, keeping}
 use Rattle.machine.proofs.Sound.{Sound}
 use Rattle.saved.specs.Block.{block_size, block_of, held_in, has_codes}
 use Rattle.saved.specs.Head.{head_size, image_size}
-use Rattle.saved.specs.Answers.{load_head_of, load_of, loaded_by, state_if, open_of}
+use Rattle.saved.specs.Answers.{Loaded, load_head_of, load_of, loaded_by, state_if, open_of}
 use Rattle.saved.specs.Refusals.{Accepted}
-use Rattle.saved.specs.declared.Loaded.{Loaded}
 use Rattle.saved.proofs.Accepted.{accepted_right}
 use Rattle.digits.proofs.Places.{ByteList}
 use Rattle.saved.proofs.Blocks.{held_back, has_codes_lem, block_back, held_sound}

@@ -11,13 +11,11 @@ use lib.ListN.{length, take, drop, length-append}
 use lib.Seq.{length-take-le, take_at, drop_at}
 use Rattle.arith.specs.Refusals.{unless_refused}
 use Rattle.machine.specs.Answers.{Gives}
-use Rattle.machine.specs.Run.{run_of}
+use Rattle.machine.specs.Run.{Ran, run_of}
 use Rattle.machine.specs.declared.Cpu.{Cpu}
-use Rattle.machine.specs.declared.Ran.{Ran}
 use Rattle.saved.specs.Head.{head_size, image_size, head_of, image_of, state_in, memory_in}
 use Rattle.saved.specs.Refusals.{Accepted, load_code}
-use Rattle.saved.specs.Answers.{open_of, load_of, loaded_by, state_if, save_head_of, saved_by, left_by}
-use Rattle.saved.specs.declared.Loaded.{Loaded}
+use Rattle.saved.specs.Answers.{Loaded, open_of, load_of, loaded_by, state_if, save_head_of, saved_by, left_by}
 use Rattle.saved.proofs.Accepted.{accepted_right, head_fits_accepted}
 use Rattle.saved.proofs.Refused.{refused_by_lem}
 use Rattle.saved.proofs.Written.{put_to_end}

@@ -5,8 +5,7 @@ use Rattle.std.specs.Prelude.{ℕ, Bool, true, false, List}
 use Rattle.machine.specs.Memory.{Memory}
 use Rattle.machine.specs.Answers.{With, keeping}
 use Rattle.saved.specs.Block.{block_of, held_in, has_codes}
-use Rattle.saved.specs.Answers.{load_head_of, open_of, save_head_of, save_image_of}
-use Rattle.saved.specs.declared.Loaded.{Loaded}
+use Rattle.saved.specs.Answers.{Loaded, load_head_of, open_of, save_head_of, save_image_of}
 
 -- a load answers its number and leaves the state in the block: the all-zero state where it is refused
 unfoldable pub block_loaded : Loaded → With ℕ

@@ -7,10 +7,8 @@ use Rattle.assembler.specs.Text as assembler
 use Rattle.listing.specs.Answer.{Answer}
 use Rattle.machine.specs.Memory.{Memory}
 use Rattle.machine.specs.Answers.{With}
-use Rattle.machine.specs.Step.{step_of}
-use Rattle.machine.specs.Run.{run_of}
-use Rattle.machine.specs.declared.Stepped.{Stepped}
-use Rattle.machine.specs.declared.Ran.{Ran}
+use Rattle.machine.specs.Step.{Stepped, step_of}
+use Rattle.machine.specs.Run.{Ran, run_of}
 use Rattle.saved.specs.Block.{block_of, held_in, has_codes}
 use Rattle.saved.specs.Head.{image_size, image_of, state_in, memory_in}
 use Rattle.saved.specs.Refusals.{load_code}

@@ -6,41 +6,69 @@
 mod wording;
 
 ghost use Rattle.std.specs.Prelude.{◌≡◌};
+ghost use Rattle.arith.specs.Numbers.{code_in};
 ghost use Rattle.assembler.specs.Text.{assemble_of};
 ghost use Rattle.insn.specs.Table.{length_of, untaken_of};
 ghost use Rattle.listing.specs.Answer.{list_of};
 ghost use Rattle.machine.specs.Answers.{Gives};
-ghost use Rattle.trnadulek.specs.Block.{load_block_of, open_block_of, save_block_of, save_block_image_of};
+ghost use Rattle.machine.specs.Told.{number_if};
+ghost use Rattle.saved.specs.Answers.{told_load};
+ghost use Rattle.trnadulek.specs.Block.{block_loaded, load_block_of, open_block_of, save_block_of, save_block_image_of};
 ghost use Rattle.trnadulek.specs.Calls.{StepGives, step_block_of, RunGives, run_block_of, ImageGives, run_image_of, ListGives, AssembleGives};
 ghost use Rattle.trnadulek.specs.Sizes.{size_of, library_version};
 ghost use Rattle.trnadulek.specs.Wording.{wording_of, tell_of};
 
+use arith::Refusal;
 use insn::table;
-use machine::{LARGEST_BUDGET, run};
-use saved::block;
+use machine::{Cpu, LARGEST_BUDGET, MEMORY_SIZE, run};
+use saved::{BLOCK_SIZE, HEAD_SIZE, IMAGE_SIZE, block};
+
+// The number of an answer: 0 where it is done.
+// Stays: the C interface answers with the number of a refusal, and 0 where there is none.
+fn code<T: Copy>(answer: Result<T, Refusal>) -> u8
+    ensures { result ≡ code_in answer }
+{
+    match answer {
+        Ok(_) => 0,
+        Err(refusal) => u8::from(refusal),
+    }
+}
+
+fn step(state: &mut [u8; BLOCK_SIZE], memory: &mut [u8], cycles: &mut u8) -> Result<(), Refusal>
+    ensures { StepGives (step_block_of state.old memory.old) (code_in result) state.new memory.new cycles.new }
+{
+    *cycles = 0;
+    let cpu = block::read(state)?;
+    let taken = run::step(cpu, memory)?;
+    *state = block::bytes_of(taken.cpu);
+    *cycles = taken.cycles;
+    Ok(())
+}
 
 // One step of the state in a block. Refusals 9 for its codes, then 1, 2, 3, 4, which change nothing and leave 0 cycles.
 #[unsafe(no_mangle)]
-pub extern "C" fn trnadulek_step(state: &mut [u8; 14], memory: &mut [u8], cycles: &mut u8) -> u8
+pub extern "C" fn trnadulek_step(
+    state: &mut [u8; BLOCK_SIZE],
+    memory: &mut [u8],
+    cycles: &mut u8,
+) -> u8
     ensures { StepGives (step_block_of state.old memory.old) result state.new memory.new cycles.new }
 {
-    if block::has_codes(&*state) {
-        let cpu = block::state_of(&*state);
-        let stepped = run::step(cpu, memory);
-        let after = stepped.cpu;
-        *state = block::bytes_of(after);
-        *cycles = stepped.cycles;
-        return stepped.code;
-    }
-    *cycles = 0;
-    9
+    code(step(state, memory, cycles))
+}
+
+// The number of a run's end.
+fn number(refusal: Option<Refusal>) -> u8
+    ensures { result ≡ number_if refusal }
+{
+    refusal.map_or(0, u8::from)
 }
 
 // Steps until the budget is met. Refusals 9 for the block's codes, then 1, 2, 5, which change nothing and leave 0 cycles and 0
 // steps; 3 or 4 where a step is refused, and then the steps before it stay.
 #[unsafe(no_mangle)]
 pub extern "C" fn trnadulek_run(
-    state: &mut [u8; 14],
+    state: &mut [u8; BLOCK_SIZE],
     memory: &mut [u8],
     budget: u32,
     spent: &mut u32,
@@ -48,18 +76,20 @@ pub extern "C" fn trnadulek_run(
 ) -> u8
     ensures { RunGives (run_block_of budget state.old memory.old) result state.new memory.new spent.new steps.new }
 {
-    if block::has_codes(&*state) {
-        let cpu = block::state_of(&*state);
-        let ran = run::run(cpu, memory, budget);
-        let last = ran.cpu;
-        *state = block::bytes_of(last);
-        *spent = ran.spent;
-        *steps = ran.steps;
-        return ran.code;
+    match block::read(state) {
+        Ok(cpu) => {
+            let ran = run::run(cpu, memory, budget);
+            *state = block::bytes_of(ran.cpu);
+            *spent = ran.spent;
+            *steps = ran.steps;
+            number(ran.refusal)
+        }
+        Err(refusal) => {
+            *spent = 0;
+            *steps = 0;
+            u8::from(refusal)
+        }
     }
-    *spent = 0;
-    *steps = 0;
-    9
 }
 
 // The same of an image where it lies, whose head and memory are always those of one state. Refusals 6, 7, 8, 9, 2, 5, which
@@ -73,64 +103,89 @@ pub extern "C" fn trnadulek_run_image(
 ) -> u8
     ensures { ImageGives (run_image_of budget image.old) result image.new spent.new steps.new }
 {
-    let opened = saved::check_image(&*image);
-    let code = opened.code;
-    if code != 0 {
-        *spent = 0;
-        *steps = 0;
-        return code;
-    }
-    let cpu = opened.cpu;
-    let played = run::run(cpu, &mut image[23..], budget);
+    let cpu = match saved::check_image(image) {
+        Ok(cpu) => cpu,
+        Err(refusal) => {
+            *spent = 0;
+            *steps = 0;
+            return u8::from(refusal);
+        }
+    };
+    let played = run::run(cpu, &mut image[HEAD_SIZE..], budget);
     let after = played.cpu;
-    saved::save_head(after, &mut image[..23]);
+    // The head has its size and F keeps its low bits at 0, so nothing is refused.
+    let _ = saved::save_head(after, &mut image[..HEAD_SIZE]);
     *spent = played.spent;
     *steps = played.steps;
-    played.code
+    number(played.refusal)
+}
+
+// Leaves the block of a state that was loaded, and zeros where it was refused.
+fn leave(loaded: Result<Cpu, Refusal>, state: &mut [u8; BLOCK_SIZE]) -> u8
+    ensures { Gives (block_loaded (told_load loaded)) result state.new }
+{
+    match loaded {
+        Ok(cpu) => {
+            *state = block::bytes_of(cpu);
+            0
+        }
+        Err(refusal) => {
+            *state = [0; BLOCK_SIZE];
+            u8::from(refusal)
+        }
+    }
 }
 
 // The state block of a head. Refusals 6, 7, 8, 9, 2, which leave a block of zeros.
+// Stays: the C interface has a name for a head and one for an image; what both do is `leave`.
 #[unsafe(no_mangle)]
-pub extern "C" fn trnadulek_load_head(head: &[u8], state: &mut [u8; 14]) -> u8
+pub extern "C" fn trnadulek_load_head(head: &[u8], state: &mut [u8; BLOCK_SIZE]) -> u8
     ensures { Gives (load_block_of head.now) result state.new }
 {
-    let loaded = saved::load_head(head);
-    let cpu = loaded.cpu;
-    *state = block::bytes_of(cpu);
-    loaded.code
+    leave(saved::load_head(head), state)
+}
+
+fn save_head(state: &[u8; BLOCK_SIZE], head: &mut [u8]) -> Result<(), Refusal>
+    ensures { Gives (save_block_of state.now head.old) (code_in result) head.new }
+{
+    let cpu = block::read(state)?;
+    saved::save_head(cpu, head)
 }
 
 // The head of a state block. Refusals 9, 6, 2, which change nothing.
+// Stays: the C interface has a name for saving a head and one for an image.
 #[unsafe(no_mangle)]
-pub extern "C" fn trnadulek_save_head(state: &[u8; 14], head: &mut [u8]) -> u8
+pub extern "C" fn trnadulek_save_head(state: &[u8; BLOCK_SIZE], head: &mut [u8]) -> u8
     ensures { Gives (save_block_of state.now head.old) result head.new }
 {
-    if block::has_codes(state) {
-        return saved::save_head(block::state_of(state), head);
-    }
-    9
+    code(save_head(state, head))
 }
 
 // The state block of an image, whose memory is its bytes from 23 to the end. Refusals 6, 7, 8, 9, 2, which leave a block of zeros.
 #[unsafe(no_mangle)]
-pub extern "C" fn trnadulek_open_image(image: &[u8], state: &mut [u8; 14]) -> u8
+pub extern "C" fn trnadulek_open_image(image: &[u8], state: &mut [u8; BLOCK_SIZE]) -> u8
     ensures { Gives (open_block_of image.now) result state.new }
 {
-    let checked = saved::check_image(image);
-    let cpu = checked.cpu;
-    *state = block::bytes_of(cpu);
-    checked.code
+    leave(saved::check_image(image), state)
+}
+
+fn save_image(state: &[u8; BLOCK_SIZE], memory: &[u8], image: &mut [u8]) -> Result<(), Refusal>
+    ensures { Gives (save_block_image_of state.now memory.now image.old) (code_in result) image.new }
+{
+    let cpu = block::read(state)?;
+    saved::save_image(cpu, memory, image)
 }
 
 // The image of a state block and a memory. Refusals 9, 6, 1, 2, which change nothing.
 #[unsafe(no_mangle)]
-pub extern "C" fn trnadulek_save_image(state: &[u8; 14], memory: &[u8], image: &mut [u8]) -> u8
+pub extern "C" fn trnadulek_save_image(
+    state: &[u8; BLOCK_SIZE],
+    memory: &[u8],
+    image: &mut [u8],
+) -> u8
     ensures { Gives (save_block_image_of state.now memory.now image.old) result image.new }
 {
-    if block::has_codes(state) {
-        return saved::save_image(block::state_of(state), memory, image);
-    }
-    9
+    code(save_image(state, memory, image))
 }
 
 // The listing of a part whose first byte stands at an address, in the spelling of edition 1, the old one, or 2. Refusals 11 for another
@@ -146,8 +201,8 @@ pub extern "C" fn trnadulek_list(
     ensures { ListGives (list_of edition first part.now out.old) result out.new length.new }
 {
     let listed = listing::list(part, first, edition, out);
-    *length = listed.length;
-    listed.code
+    *length = listed.unwrap_or(0);
+    code(listed)
 }
 
 // The bytes of lines of spelling, the first of which stands at an address. Refusals, for the first line at fault, whose number from 1 is
@@ -163,13 +218,22 @@ pub extern "C" fn trnadulek_assemble(
 ) -> u8
     ensures { AssembleGives (assemble_of first text.now out.old) result out.new line.new length.new }
 {
-    let assembled = assembler::assemble(text, first, out);
-    *line = assembled.line;
-    *length = assembled.length;
-    assembled.code
+    match assembler::assemble(text, first, out) {
+        Ok(assembled) => {
+            *line = 0;
+            *length = assembled;
+            0
+        }
+        Err(fault) => {
+            *line = fault.line;
+            *length = 0;
+            u8::from(fault.refusal)
+        }
+    }
 }
 
 // The bytes of a row of the opcode table, and 0 for a row that has none.
+// Stays: the C interface asks for the length and the cycles of a row by two names.
 #[unsafe(no_mangle)]
 pub extern "C" fn trnadulek_length(row: u32) -> u8
     ensures { result ≡ length_of row }
@@ -187,15 +251,16 @@ pub extern "C" fn trnadulek_untaken_cycles(row: u32) -> u8
 
 // The sizes that a host needs: 0 a head, 1 a state block, 2 the memory, 3 an image, 4 the largest budget, 5 the most characters of a
 // listing for each byte listed; 0 for any other number.
+// Stays: the C interface asks for a size by its number.
 #[unsafe(no_mangle)]
 pub extern "C" fn trnadulek_size(which: u32) -> u32
     ensures { result ≡ size_of which }
 {
     match which {
-        0 => 23,
-        1 => 14,
-        2 => 65_536,
-        3 => 65_559,
+        0 => HEAD_SIZE as u32,
+        1 => BLOCK_SIZE as u32,
+        2 => MEMORY_SIZE as u32,
+        3 => IMAGE_SIZE as u32,
         4 => LARGEST_BUDGET,
         5 => 19,
         _ => 0,

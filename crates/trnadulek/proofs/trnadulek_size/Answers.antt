@@ -1,5 +1,6 @@
 -- `trnadulek_size` answers the size of each number.
 use mathlib.Core.Path.{sym}
+use native.Mathlib.Omega.{arith}
 use Rattle.trnadulek.specs.Sizes.{sizes, size_of}
 use Rattle.trnadulek.proofs.Unnamed.{sizeless}
 use Rattle.trnadulek.proofs.trnadulek_size.Goals as goal
@@ -30,4 +31,4 @@ returns-in-5 c = rw c.in-5.is
 
 pub returns-in_default : goal.returns-in_default
 unfolding sizes size_of
-returns-in_default c = sym (sizeless c.args.which c.in_default.in_default-own.rest)
+returns-in_default c = sym (sizeless c.args.which (omega arith))
