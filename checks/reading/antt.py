@@ -105,7 +105,7 @@ def part_of(one, began, at, line):
 def brought(text):
     """What each name that a file's `use` lines bring stands for: {name here: module and name there}."""
     found = {}
-    for module, names in re.findall(r"^(?:ghost |pub )*use ([^\s{;]+?)\.\{([^}]*)\}", text, re.M):
+    for module, names in re.findall(r"^ *(?:ghost |pub )*use ([^\s{;]+?)\.\{([^}]*)\}", text, re.M):
         for one in names.split(","):
             there, _, here = one.strip().partition(" as ")
             if there:
@@ -115,4 +115,4 @@ def brought(text):
 
 def modules(text):
     """The modules that a file's `use` lines give a name: {name here: module}."""
-    return {here: module for module, here in re.findall(r"^(?:ghost )?use (\S+) as (\S+?);?$", text, re.M)}
+    return {here: module for module, here in re.findall(r"^ *(?:ghost )?use (\S+) as (\S+?);?$", text, re.M)}

@@ -81,9 +81,11 @@ def laws(name, wanted, root=ROOT):
 
 
 def types(text):
-    """The types of a crate's first file: without its modules and its functions."""
-    text = re.sub(r"^(pub )?mod \w+;\n|^use \w+::[a-z_]+;\n", "", text, flags=re.M)
-    return re.sub(r"^(?:(?://|#\[).*\n)*(?:pub )?fn (?:.*\n)*?\}\n\n?", "", text, flags=re.M)
+    """The types of a crate's first file: without its modules, its functions and its blocks of methods."""
+    text = re.sub(r"^(pub )?mod \w+;\n|^use \w+::[a-z_]+;\n|^use crate::[^;]*;\n", "", text, flags=re.M)
+    text = re.sub(r"^(?:(?://|#\[).*\n)*(?:pub )?(?:fn|impl) (?:.*\n)*?\}\n\n?", "", text, flags=re.M)
+    used = re.sub(r"^use [^;]*;\n", "", text, flags=re.M)
+    return re.sub(r"^use \w+::([A-Z]\w*);\n", lambda one: one.group(0) if re.search(rf"\b{one.group(1)}\b", used) else "", text, flags=re.M)
 
 
 def called(top, crates, root):
@@ -93,16 +95,34 @@ def called(top, crates, root):
     return whole | {name for one in whole for name in called(one, crates, root)}
 
 
-def cut(source, target, kept):
-    """A crate's types and definitions, and these laws."""
-    shutil.copytree(source / "specs", target / "specs")
+def definitions(name, texts, root=ROOT):
+    """The files of a crate's definitions that texts cite, and those that these rest on: {file: text}."""
+    kept, todo = {}, list(texts)
+    while todo:
+        for file in re.findall(rf"Rattle\.{name}\.specs\.([A-Z]\w*)", todo.pop()):
+            if file not in kept:
+                kept[file] = (root / "crates" / name / "specs" / f"{file}.antt").read_text()
+                todo.append(kept[file])
+    return kept
+
+
+def cut(source, target, kept, texts, root=ROOT):
+    """A crate's types, the definitions that texts cite, and these laws; the texts of the definitions."""
+    lib = types((source / "src/lib.rt").read_text())
+    files = definitions(source.name, [*texts, *kept.values(), lib], root)
+    (target / "specs").mkdir(parents=True)
     (target / "src").mkdir()
-    (target / "src/lib.rt").write_text(types((source / "src/lib.rt").read_text()))
+    (target / "src/lib.rt").write_text(lib)
+    listed = re.findall(r"^pub mod (\w+)", (source / "specs/Lib.antt").read_text(), re.M)
+    (target / "specs/Lib.antt").write_text("".join(f"pub mod {file}\n" for file in listed if file in files))
+    for file, text in files.items():
+        (target / "specs" / f"{file}.antt").write_text(text)
     if kept:
         (target / "proofs").mkdir()
         (target / "proofs/Lib.antt").write_text("".join(f"pub mod {file}\n" for file in kept))
         for file, text in kept.items():
             (target / "proofs" / f"{file}.antt").write_text(text)
+    return list(files.values())
 
 
 def copy_under(folder, top, root=ROOT, whole=None, theorems=None):
@@ -111,8 +131,7 @@ def copy_under(folder, top, root=ROOT, whole=None, theorems=None):
     crates = listed(root)
     if theorems:
         kept = laws(top, theorems, root)
-        cut(root / "crates" / top, folder / "crates" / top, kept)
-        entire, texts = set(), [*kept.values(), *(path.read_text() for path in (root / "crates" / top / "specs").glob("*.antt"))]
+        entire, texts = set(), [*kept.values(), *cut(root / "crates" / top, folder / "crates" / top, kept, [], root)]
     else:
         entire = called(top, crates, root) if whole is None else set(whole)
         shutil.copytree(root / "crates" / top, folder / "crates" / top, ignore=LEFT)
@@ -125,6 +144,5 @@ def copy_under(folder, top, root=ROOT, whole=None, theorems=None):
             texts += [path.read_text() for path in target.glob("**/*.antt")]
             continue
         kept = laws(name, cited(texts, f"Rattle\\.{name}\\.proofs"), root)
-        cut(source, target, kept)
-        texts += kept.values()
+        texts += [*cut(source, target, kept, texts, root), *kept.values()]
     write_list(folder, {top, *under}, root)

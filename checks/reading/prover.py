@@ -10,7 +10,7 @@ from .antt import OWN
 UNFIT = (
     r"has no field",
     r"has no `",
-    r"^`(invariant|decreases)[-_]",
+    r"^`(invariant(?!_of-)|decreases)[-_]",  # of a loop; `invariant_of-` is a goal, what a type says of its values
     r"not in scope|is not defined|unknown|unbound|no module|cannot find",
     r"\btakes (no|too|\d+) |\btake (no|too) |too many arguments|expects? \d+ argument",
     r"error\[",

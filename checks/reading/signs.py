@@ -38,7 +38,7 @@ def declared(text):
 
 def named(text):
     """The signs that a file names with their places marked, outside its `use` lines: what could bind one."""
-    rest = re.sub(r"^(ghost |pub )*use .*$", "", "\n".join(antt.plain(text)), flags=re.M)
+    rest = re.sub(r"^ *(ghost |pub )*use .*$", "", "\n".join(antt.plain(text)), flags=re.M)
     return sorted(sign for sign in SIGNS if "◌" in sign and re.search(rf"(?<![^\s({{]){re.escape(sign)}(?![^\s)}}])", rest))
 
 

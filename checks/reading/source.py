@@ -17,6 +17,7 @@ class Function:
     ensures: list = field(default_factory=list)
     exported: bool = False  # under its own name in a static library
     declared: bool = False  # by the word `pub`, wherever it stands
+    of_trait: bool = False  # of a trait's `impl`, which promises by the trait's ghost members too
     file: object = None
     body: tuple = (0, 0)  # where the body begins and ends in the file
 
@@ -91,6 +92,15 @@ def used(text):
     return [(path.replace(" ", ""), name.strip() or path.split("::")[-1].strip())]
 
 
+def word_of(kind):
+    """A type as the prover writes it in a name: `u8` is U8, `&[u8; 2]` is ArrayU8."""
+    kind = re.sub(r"&\s*('\w+\s+)?(mut\s+)?|'\w+|\bdyn\b|\w+::", "", kind)
+    array = re.match(r"\s*\[(.*?)(;.*)?\]\s*$", kind)
+    if array:
+        return ("Array" if array.group(2) else "Slice") + word_of(array.group(1))
+    return "+".join(word[0].upper() + word[1:] for word in re.findall(r"\w+", kind))
+
+
 class Crate:
     """Reads the source of a library crate, module by module."""
 
@@ -99,8 +109,11 @@ class Crate:
         self.found, self.modules, self.shown, self.lost = [], {(): True}, [], []
         root = self.folder / "lib.rt"
         if root.exists():
-            every = "".join(without_comments(path.read_text()) for path in sorted(self.folder.glob("**/*.rt")))
+            texts = {path: without_comments(path.read_text()) for path in sorted(self.folder.glob("**/*.rt"))}
+            every = "".join(texts.values())
             self.types = set(re.findall(r"^\s*pub (?:struct|enum|type) (\w+)", every, re.M))
+            self.hidden = set(re.findall(r"^\s*(?:pub\([^)]*\) )?(?:struct|enum|type|trait) (\w+)", every, re.M)) - self.types
+            self.homes = {name: self.module_of(path) for path in texts for name in re.findall(r"^(?:pub(?:\([^)]*\))? )?(?:struct|enum) (\w+)", texts[path], re.M)}
             self.constants = set(re.findall(r"^\s*pub const (\w+)", every, re.M))
             self.read_file(root, (), True)
             self.follow()
@@ -139,6 +152,11 @@ class Crate:
         text = without_comments(file.read_text())
         self.read_items(Reading(text, 0, len(text)), file, path, reached)
 
+    def module_of(self, file):
+        """The module that a file is."""
+        path = file.relative_to(self.folder).with_suffix("").parts
+        return path[:-1] if path[-1] in ("lib", "mod") else path
+
     def file_of(self, path):
         plain = self.folder.joinpath(*path).with_suffix(".rt")
         return plain if plain.exists() else self.folder.joinpath(*path, "mod.rt")
@@ -162,10 +180,18 @@ class Crate:
                 else:
                     self.read_items(reading.block("{", "}"), file, inner, open_)
                 continue
+            kept = reading.take(r"impl(?:<[^>]*>)? (?:\w+::)*(\w+)(?:<([^{]*?)>)? for ([^{]*?)\s*(?=\{)")
+            if kept:
+                trait, given, kind = kept.groups()
+                name = word_of(kind) + trait + word_of(given or "")
+                seen = not self.hidden & set(re.findall(r"\w+", f"{trait} {given} {kind}"))
+                self.read_trait(reading.block("{", "}"), file, path + (name,), seen)
+                continue
             methods = reading.take(r"impl(?:<[^>]*>)? (\w+)[^{]*")
             if methods:
                 # a public method of a public type is in reach wherever its block stands
-                self.read_items(reading.block("{", "}"), file, (methods.group(1),), methods.group(1) in self.types)
+                kind = methods.group(1)
+                self.read_items(reading.block("{", "}"), file, (*self.homes.get(kind, ()), kind), kind in self.types)
                 continue
             function = reading.take(r'(pub(?:\([^)]*\))? )?(?:const )?(?:extern "C" )?fn ')
             if function:
@@ -178,6 +204,30 @@ class Crate:
             if not reading.take(";") and not reading.over():
                 reading.block("{", "}")
                 reading.take(";")
+
+
+    def read_trait(self, block, file, path, seen):
+        """A trait's functions, as written by hand for a type: each promises what it ensures and what the ghost members say."""
+        ghosts, found = {}, []
+        while not block.over():
+            if block.take(r"#(?=\[)"):
+                block.block("[", "]")
+                continue
+            ghost = block.take(r"ghost (\w+)[^={]*=\s*(?=\{)")
+            function = None if ghost else block.take(r"(?:const )?fn ")
+            if ghost:
+                ghosts[ghost.group(1)] = block.block("{", "}").words()
+            elif function:
+                found.append(read_function(block, file, path))
+            else:
+                block.take(r"[^{;]*")
+                if not block.take(";") and not block.over():
+                    block.block("{", "}")
+        for one in found:
+            one.of_trait, one.public = True, seen
+            one.requires += [said for name, said in ghosts.items() if name.startswith("can_")]
+            one.ensures += [said for name, said in ghosts.items() if not name.startswith("can_")]
+        self.found += found
 
 
 def read_function(reading, file, path):

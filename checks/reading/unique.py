@@ -89,12 +89,13 @@ def missing(crate, function):
         return "proofs/Unique.antt is not there"
     if not re.search(r"^pub mod Unique$", (crate / "proofs/Lib.antt").read_text(), re.M):
         return "proofs/Lib.antt does not name Unique"
-    text, name = page.read_text(), function.path[-1] + "_unique"
+    text, name, path = page.read_text(), function.path[-1] + "_unique", ".".join(function.path)
+    alias = re.search(rf"^use Rattle\.{crate.name}\.proofs\.{re.escape(path)}\.Reads as (\S+)$", text, re.M)
+    if function.of_trait:  # many traits' functions have one name, so that the theorem has the name that the page gives the promise
+        name = f"{alias.group(1).replace('-', '_')}_unique" if alias else f"a theorem of {path}"
     stated = statement(text, name)
     if stated is None:
         return f"{name} is not there"
-    path = ".".join(function.path)
-    alias = re.search(rf"^use Rattle\.{crate.name}\.proofs\.{re.escape(path)}\.Reads as (\S+)$", text, re.M)
     if not alias or len(re.findall(rf" as {re.escape(alias.group(1))}$", text, re.M)) != 1:
         return f"{name} does not speak of what {path} promises"
     parts = said(stated, f"{alias.group(1)}.Post")

@@ -14,9 +14,11 @@ LINES = "listing/src/lines.rt"
 LINE_OF = "listing/specs/Lines.antt"
 LISTED = "listing/specs/Answer.antt"
 SPELLED = "listing/specs/Spelling.antt"
+TABLE = "listing/src/table.rt"
 LIST = "listing/src/lib.rt"
 FORM = "constants/src/forms.rt"
-TOTALS = "constants/src/totals.rt"
+NUMBERS = "constants/src/numbers.rt"
+SUMS = "constants/src/sums.rt"
 RANGES = "assembler/src/ranges.rt"
 TEXTS = "assembler/src/texts.rt"
 VERDICTS = "assembler/specs/Lines.antt"
@@ -35,9 +37,12 @@ EASY = [
     ),
     Change(
         "DAA after a subtraction tests the digits",
-        ("arith/src/decimal.rt", "(adjustment(h, c) as u16)", "(adjustment(h | (0x09 < a % 16), c | (0x99 < a)) as u16)"),
+        ("arith/src/decimal.rt", "adjustment(h, c)", "adjustment(h || 0x09 < a % 16, c || 0x99 < a)"),
     ),
-    Change("EI is On at once", ("machine/src/modes.rt", "Ime::Off => Ime::Arming,", "Ime::Off => Ime::On,")),
+    Change(
+        "EI is On at once",
+        (MODES, "Ime::Off | Ime::Arming => Ime::Arming,", "Ime::Off => Ime::On,\n        Ime::Arming => Ime::Arming,"),
+    ),
     Change(
         "in Repeat PC is moved back after the instruction",
         (
@@ -87,26 +92,26 @@ INSTRUCTIONS = [
     Change("ADC's H leaves the carry out", ("arith/src/bytes.rt", "let h = half_carry(a, b, k);", "let h = half_carry(a, b, false);")),
     Change(
         "SBC does not take the borrow away",
-        ("arith/src/bytes.rt", "let taken = (b as u16) + (one_if(k) as u16);", "let taken = (b as u16) + (one_if(false) as u16);"),
+        ("arith/src/bytes.rt", "let (value, c) = a.borrowing_sub(b, k);", "let (value, c) = a.borrowing_sub(b, false);"),
     ),
     Change(
         "INC sets C",
         (
             "arith/src/bytes.rt",
-            "flags::pack(value == 0, false, h, flags::carry(f))",
-            "flags::pack(value == 0, false, h, flags::carry(f) | (value == 0))",
+            "flags::pack(value == 0, false, h, Flag::C.is_set(f))",
+            "flags::pack(value == 0, false, h, Flag::C.is_set(f) || value == 0)",
         ),
     ),
     Change(
         "BIT sets C",
         (
             "arith/src/bytes.rt",
-            "flags::pack(!bit(k, v), false, true, flags::carry(f))",
-            "flags::pack(!bit(k, v), false, true, flags::carry(v))",
+            "flags::pack(!bit(k, v), false, true, Flag::C.is_set(f))",
+            "flags::pack(!bit(k, v), false, true, Flag::C.is_set(v))",
         ),
     ),
-    Change("JR costs 2 cycles", ("insn/src/rows.rt", "given(Insn::Jr(n8), 1, 3)", "given(Insn::Jr(n8), 1, 2)")),
-    Change("a taken JR cc costs 2 cycles", ("machine/src/jumps.rt", "extra: 1,", "extra: 0,")),
+    Change("JR costs 2 cycles", ("insn/src/rows.rt", "Decoded::new(Insn::Jr(n8), 1, 3)", "Decoded::new(Insn::Jr(n8), 1, 2)")),
+    Change("a taken JR cc costs 2 cycles", ("machine/src/jumps.rt", "self.with_pc(to).done_after(1)", "self.with_pc(to).done_after(0)")),
     Change(
         "CALL pushes the address before",
         ("machine/src/stack.rt", "let pc = self.pc;", "let pc = words::back(3, self.pc);"),
@@ -139,23 +144,23 @@ INSTRUCTIONS = [
     ),
     Change(
         "the numbers of refusals 3 and 4 are exchanged",
-        ("machine/src/step.rt", "self.refuse(3)", "self.refuse(4) "),
-        ("machine/src/step.rt", "self.refuse(4);", "self.refuse(3);"),
+        ("machine/src/step.rt", "(Refusal::Stopped)", "( Refusal::Undefined)"),
+        ("machine/src/step.rt", "(Refusal::Undefined)", "(Refusal::Stopped)"),
     ),
 ]
 
 LISTING = [
-    Change("an instruction that the end cuts is listed whole", (READ, "(left < size)", "(left < 1)")),
+    Change("an instruction that the end cuts is listed whole", (READ, "left < size", "left < 1")),
     Change(
         "the byte after a $10 that is data is skipped",
         (LINE_OF, "(length (line_of e a (b ∷ bytes)).bytes - 1) bytes", "(size_in (b ∷ bytes) - 1) bytes"),
     ),
-    Change("a $10 before any byte is STOP", (READ, "(n8 != 0)", "(n8 != n8)")),
+    Change("a $10 before any byte is STOP", (READ, "n8 != 0", "n8 != n8")),
     Change(
         "the target of JR counts from its own address",
-        (READ, "words::further(size as u16, address)", "words::further((size / 4) as u16, address)"),
+        (LINES, "words::further(u16::from(size), self.address)", "words::further(u16::from(size / 4), self.address)"),
     ),
-    Change("LDH shows its address without $FF", (FORMS, "words::word(0xFF, o.n8)", "words::word(0x00, o.n8)")),
+    Change("LDH shows its address without $FF", (FORMS, "words::word(0xFF, self.n8)", "words::word(0x00, self.n8)")),
     Change("e8 is shown unsigned", ("listing/src/writing.rt", "if e < 0x80 {", "if e / 2 < 0x80 {")),
     Change("digits are in lower case", ("digits/src/glyphs.rt", '"0123456789ABCDEF"', '"0123456789abcdef"')),
     Change("digits are in lower case, by the definition", ("digits/specs/Numerals.antt", '"0123456789ABCDEF"', '"0123456789abcdef"')),
@@ -176,9 +181,12 @@ LISTING = [
         (LISTED, "length, drop}", "length, drop, take}"),
         (LISTED, "length = 0 }; out = out }", "length = 0 }; out = take (length out) text }"),
     ),
-    Change("a text that is too long is written as far as it goes", (LINES, "return Measured::TooLong;", "return Measured::Fits(length);")),
-    Change("the misprint of the reference, LD [HL],A for $22, is followed", (FORMS, "Edition::New => step(p, end, out)", "Edition::New => step(p % 2 * p, end, out)")),
-    Change("a destination A is left out", (FORMS, "a A,z...", "a z.....")),
+    Change("a text that is too long is written as far as it goes", (LINES, "return Err(Refusal::Room);", "return Ok(length);")),
+    Change(
+        "the misprint of the reference, LD [HL],A for $22, is followed",
+        (FORMS, "Edition::New => step(p, writer)", "Edition::New => step(p % 2 * p, writer)"),
+    ),
+    Change("a destination A is left out", (TABLE, "a A,z...", "a z.....")),
     Change("a byte needs at most 18 characters", (LINE_OF, "most_listed = 19", "most_listed = 18")),
 ]
 
@@ -201,11 +209,18 @@ EDITIONS = [
         (LISTED, "edition_if (eqb number 1)", "edition_if (leb number 1)"),
         (LISTED, ELEVEN, ELEVEN.replace("eqb edition 1", "leb edition 1")),
     ),
-    Change("edition 0 taken", (LIST, "(edition != 1) &", "(edition > 1) &")),
-    Change("edition 3 taken", (LIST, "& (edition != 2)", "& (edition > 3)")),
-    Change("the editions exchanged", (LIST, "if edition == 1 {", "if edition == 2 {")),
-    Change("11 answered as 10", (LIST, "code: 11,", "code: 10,")),
-    Change("LDI for LDD", (FORMS, "3 => writing::push(b'D', at, out)", "3 => writing::push(b'I', at, out)")),
+    Change("edition 0 taken", (LIST, "_ => Err(Refusal::Edition),", "0 => Ok(Edition::New),\n            _ => Err(Refusal::Edition),")),
+    Change(
+        "edition 3 taken",
+        (LIST, "_ => Err(Refusal::Edition),", "0 | 3 => Ok(Edition::New),\n            _ => Err(Refusal::Edition),"),
+    ),
+    Change(
+        "the editions exchanged",
+        (LIST, "1 => Ok(Edition::Old),", "1 => Ok(Edition::New),"),
+        (LIST, "2 => Ok(Edition::New),", "2 => Ok(Edition::Old),"),
+    ),
+    Change("11 answered as 10", (LIST, "_ => Err(Refusal::Edition),", "_ => Err(Refusal::Room),")),
+    Change("LDI for LDD", (FORMS, "3 => writer.push(b'D')", "3 => writer.push(b'I')")),
     Change("LDI for LDD, by the definition", (SPELLED, '0x32 spelled two "LDD"', '0x32 spelled two "LDI"')),
     Change(
         "a ninth row in the old edition: LDI for LD [DE],A",
@@ -225,22 +240,22 @@ ASSEMBLER = [
     Change("a nesting of 17 is taken", (FORM, "const DEEPEST: usize = 16;", "const DEEPEST: usize = 17;")),
     Change(
         "a malformed constant that nests too deep is 13",
-        (FORM, "if ends(stand) & (opened == 0) {", "if (ends(stand) & (opened == 0)) | deep {"),
+        (FORM, "if !ends(stand) || opened != 0 {", "if !deep && (!ends(stand) || opened != 0) {"),
     ),
-    Change("a bracket that is not closed is taken", (FORM, "if ends(stand) & (opened == 0) {", "if ends(stand) & (opened <= 1) {")),
-    Change("a number of many digits wraps", ("constants/src/numbers.rt", "{ 65_536 }", "{ more % 65_536 }")),
-    Change("a sum on the way wraps", (TOTALS, "up: total.up + 1,", "up: total.up + 0,")),
-    Change("a difference on the way wraps", (TOTALS, "down: total.down + 1,", "down: total.down + 0,")),
-    Change("a minus negates the whole constant", ("constants/src/sums.rt", "let sign = text[at];", "let sign = text[from];")),
+    Change("a bracket that is not closed is taken", (FORM, "if !ends(stand) || opened != 0 {", "if !ends(stand) || 1 < opened {")),
+    Change("a number of many digits wraps", (NUMBERS, "Err(Refusal::Range)", "Ok(more % 65_536)")),
+    Change("a sum on the way wraps", (SUMS, "        total + term\n", "        (total + term) % 65_536\n")),
+    Change("a difference on the way wraps", (SUMS, "        total - term\n", "        (total - term) % 65_536\n")),
+    Change("a minus negates the whole constant", (SUMS, "let sign = rest[0];", "let sign = rest[0];\n        let sign = text[0];")),
     Change(
         "a minus before a bracket is lost",
-        ("constants/src/sums.rt", "depth - 1, below, total", "depth - 1, negative, total"),
+        (SUMS, "with_term(value, sign, inner.value)", "with_term(value, b'+', inner.value)"),
     ),
-    Change("a number of 65,536 is taken", (TOTALS, "if number >= 65_536 {", "if number >= 65_537 {")),
-    Change("n8 256 is taken", (RANGES, "Slot::N8 => 255,", "Slot::N8 => 256,")),
-    Change("e8 128 is taken", (RANGES, "Slot::E8 => 127,", "Slot::E8 => 128,")),
-    Change("JR reaches 128", (RANGES, "(n <= 127)", "(n <= 128)")),
-    Change("JR reaches 129 back", (RANGES, "(65408 <= n)", "(65407 <= n)")),
+    Change("a number of 65,536 is taken", (NUMBERS, "if more < 65_536 {", "if more < 65_537 {")),
+    Change("n8 256 is taken", (RANGES, "Slot::N8 => (-128..=255)", "Slot::N8 => (-128..=256)")),
+    Change("e8 128 is taken", (RANGES, "Slot::E8 => (-128..=127)", "Slot::E8 => (-128..=128)")),
+    Change("JR reaches 128", (RANGES, "n <= 127", "n <= 128")),
+    Change("JR reaches 129 back", (RANGES, "65408 <= n", "65407 <= n")),
     Change("LDH takes an address below $FF00", (RANGES, "0xFF00 <= n", "0xFE00 <= n")),
     Change("a vector that is no multiple of 8 is taken", (RANGES, "n % 8 == 0", "n % 4 == 0")),
     Change(
@@ -253,7 +268,7 @@ ASSEMBLER = [
         "a later line's fault comes first",
         (OUTCOMES, "line_outcome line room (Fault n) rest = Refused n line", "line_outcome line room (Fault n) rest = rest 0"),
     ),
-    Change("lines are numbered from 0", (TEXTS, "Measured::AtFault(code, above + 1)", "Measured::AtFault(code, above + 0)")),
+    Change("lines are numbered from 0", (TEXTS, "            line: 1,", "            line: 0,")),
     Change(
         "the output is written before a fault is known",
         (OUTCOMES, "length = 0 }; out = out }", "length = 0 }; out = [] ++ drop 1 out }"),
@@ -262,12 +277,12 @@ ASSEMBLER = [
         "an output one byte too short is taken",
         (OUTCOMES, "outcome_if (ltb room (length bytes)) line", "outcome_if (ltb (room + 1) (length bytes)) line"),
     ),
-    Change("a line without its newline is taken", (TEXTS, "if end < text.len() {", "if end <= text.len() {")),
+    Change("a line without its newline is taken", (TEXTS, "= line_end(self.text) else {", "= line_end(self.text).or(Some(self.text.len())) else {")),
     Change("a line's address stays the first", (OUTCOMES, "rest (further k a) (line + 1)", "rest a (line + 1)")),
-    Change("every line is assembled at the front", (TEXTS, "writing::code(code, at, out)", "writing::code(code, 0, out)")),
-    Change("LDIO is taken for the other way round", ("spellings/src/rows.rt", "return 0xF0;", "return 0xE0;")),
-    Change("[HLI] is taken for [HLD]", ("spellings/src/rows.rt", "[HLI][HLD]NZ", "[HLD][HLI]NZ")),
-    Change("a bracket does not begin a constant", ("spellings/src/places.rt", "(c == b'(')", "(c == b')')")),
+    Change("every line is assembled at the front", (TEXTS, "        write_bytes(bytes", "        writer.at = 0;\n        write_bytes(bytes")),
+    Change("LDIO is taken for the other way round", ("spellings/src/rows.rt", "(A, AT_NUMBER) => Some(0xF0),", "(A, AT_NUMBER) => Some(0xE0),")),
+    Change("[HLI] is taken for [HLD]", ("spellings/src/rows.rt", '"[HLI]", "[HLD]"', '"[HLD]", "[HLI]"')),
+    Change("a bracket does not begin a constant", ("spellings/src/places.rt", "b'('", "b')'")),
     Change("a bracket does not end a constant", ("spellings/specs/Outline.antt", "eqb c 44 || eqb c 93", "eqb c 44 || eqb c 91")),
     Change("a bit's number is four rows apart", (CODED, "row_bytes (row + 8 * n)", "row_bytes (row + 4 * n)")),
     Change("the prefix is left out", (CODED, "(0xCB ∷ (row - 256) ∷ [])", "((row - 256) ∷ [])")),
@@ -281,27 +296,44 @@ CHEATS = [
         "a step refuses every memory",
         (
             RUN,
-            "    if mem.len() != MEMORY_SIZE {\n        return Stepped {",
-            "    if mem.len() != 0 {\n        return Stepped {",
+            "mem.as_mut_array::<MEMORY_SIZE>() else {\n        return Err(",
+            "mem[..0].as_mut_array::<MEMORY_SIZE>() else {\n        return Err(",
         ),
     ),
     Change(
         "a run refuses every memory",
-        (RUN, "    if mem.len() != MEMORY_SIZE {\n        return refused(1, cpu);", "    if mem.len() != 0 {\n        return refused(1, cpu);"),
+        (
+            RUN,
+            "mem.as_mut_array::<MEMORY_SIZE>() else {\n        return refused(",
+            "mem[..0].as_mut_array::<MEMORY_SIZE>() else {\n        return refused(",
+        ),
     ),
-    Change("a step always says that it is done", (RUN, "code: r.code,", "code: 0,")),
-    Change("an addition has a fixed answer", ("arith/src/bytes.rt", "let value = (sum % 256) as u8;", "let value = (sum % 1) as u8;")),
+    Change(
+        "a step always says that it is done",
+        (RUN, "Some(refusal) => Err(refusal),", "Some(refusal) => Ok(Taken { cycles: ran.spent as u8, cpu: ran.cpu }),"),
+    ),
+    Change(
+        "an addition has a fixed answer",
+        (
+            "arith/src/bytes.rt",
+            "        value,\n        flags: flags::pack(value == 0, false, h, c),",
+            "        value: value % 1,\n        flags: flags::pack(value % 1 == 0, false, h, c),",
+        ),
+    ),
     Change("memory is never touched", ("machine/src/memory.rt", "mem[at as usize] = v;", "mem[at as usize] = mem[at as usize];")),
     Change(
         "memory is never touched, by the definition",
         ("machine/specs/Memory.antt", "stored m at v = set m at v", "stored m at v = set m at (byte_at m at)"),
     ),
-    Change("a step does the work of a whole run", (RUN, "run_from(cpu, mem, 1)", "run_from(cpu, mem, 1048576)")),
-    Change("the cycles of a step are invented", (RUN, "cycles: (r.spent % 256) as u8,", "cycles: (r.steps % 256) as u8,")),
-    Change("the cycles of a run are invented", (RUN, "    Ran {\n        code: 0,\n        spent,", "    Ran {\n        code: 0,\n        spent: budget,")),
+    Change("a step does the work of a whole run", (RUN, "run_from(cpu, memory, 1)", "run_from(cpu, memory, 1048576)")),
+    Change("the cycles of a step are invented", (RUN, "cycles: ran.spent as u8,", "cycles: ran.steps as u8,")),
+    Change(
+        "the cycles of a run are invented",
+        (RUN, "        refusal: None,\n        spent,", "        refusal: None,\n        spent: budget,"),
+    ),
     Change(
         "the steps of a run are invented",
-        (RUN, "    Ran {\n        code: 0,\n        spent,\n        steps,", "    Ran {\n        code: 0,\n        spent,\n        steps: spent,"),
+        (RUN, "        refusal: None,\n        spent,\n        steps,", "        refusal: None,\n        spent,\n        steps: spent,"),
     ),
     Change(
         "a refused step is counted in the cycles",
@@ -312,16 +344,23 @@ CHEATS = [
         ("machine/specs/Run.antt", "(λ code. ending code spent steps s m))", "(λ code. ending code spent (steps + 1) s m))"),
     ),
     Change("the step count is off by one", (RUN, "let mut steps: u32 = 0;", "let mut steps: u32 = 1;")),
-    Change("a listing always answers 10", (LINES, "Listed { code: 0, length }", "Listed { code: 10, length: 0 }")),
+    Change("a listing always answers 10", (LINES, "Ok(length)", "Err(Refusal::Room)")),
     Change(
         "a listing always answers 0 and length 0",
-        (LINES, "Listed { code: 0, length }", "Listed { code: 0, length: 0 }"),
-        (LINES, "code: 10,", "code: 0,"),
+        (LINES, "Ok(length)", "Ok(0)"),
+        (LINES, "return Err(Refusal::Room);", "return Ok(0);"),
     ),
-    Change("an assembly always answers 12", ("assembler/src/lines.rt", "if row == NO_ROW {", "if row == row {")),
-    Change("an assembly always answers that it is done", ("assembler/src/lib.rt", "            code,\n            line,", "            code: 0,\n            line: 0,")),
-    Change("two rows of the listing's table are exchanged", (FORMS, "DI......EI......", "EI......DI......")),
-    Change("a listing has DB for everything", (READ, "(form == kinds::DATA)", "(form == form)")),
+    Change("an assembly always answers 12", ("assembler/src/lines.rt", "let row = form.row.ok_or", "let row: u16 = None.ok_or")),
+    Change(
+        "an assembly always answers that it is done",
+        (
+            "assembler/src/lib.rt",
+            "let length = texts::measure(text, first, out.len())?;",
+            "let length = texts::measure(text, first, out.len()).or_else(|fault| -> Result<usize, Fault> { Ok(0) })?;",
+        ),
+    ),
+    Change("two rows of the listing's table are exchanged", (TABLE, "DI......EI......", "EI......DI......")),
+    Change("a listing has DB for everything", (READ, "form == kinds::DATA", "form == form")),
     Change("a listing has DB for everything, by the definition", (LINE_OF, "line_if (is_data bytes) e a bytes", "line_if true e a bytes")),
 ]
 
