@@ -46,6 +46,7 @@ impl Text {
 }
 
 // The number of a run's end.
+// Stays: one line of std's `map_or`, which the C interface has too; no plainer in a crate that both stand on.
 fn code(refusal: Option<Refusal>) -> u8
     ensures { result ≡ number_if refusal }
 {

@@ -40,6 +40,7 @@ impl Text {
     }
 
     // The digit of n that counts p, where n reaches p.
+    // Stays: `as` for a digit here and below, since it is less than 16, and `try_from` would have an arm that is never taken.
     fn digit(self, n: u32, p: u32) -> Text
         requires { 0 < p }
         ensures { (p ≤ n → result ≡ pushed (glyph_of (n / p % 10)) self) × (n < p → result ≡ self) }
