@@ -1,13 +1,13 @@
 // DAA: the decimal adjustment of A after an addition or a subtraction.
 #![tactic(auto, using(crate::proofs::Truths::weight_told), unfolding(crate::specs::Flags::flag_of, crate::specs::Decimal::adjustment_of, crate::specs::Decimal::adjusted_of, crate::specs::Decimal::after_subtraction_of, crate::specs::Decimal::low_wrong_of, crate::specs::Decimal::high_wrong_of, crate::specs::Decimal::after_addition_of, crate::specs::Decimal::by_last, crate::specs::Decimal::decimal_of, crate::specs::Width::sum_of, crate::specs::Width::difference_of))]
 
-ghost use Rattle.std.specs.Prelude.{◌≡◌};
+ghost use Rattle.std.specs.Prelude.{◌≡◌, ◌≤◌};
 ghost use Rattle.arith.specs.Decimal.{adjustment_of, adjusted_of, after_subtraction_of, after_addition_of, decimal_of};
 
 use crate::{Byte, Flag, flags};
 
 fn adjustment(low: bool, high: bool) -> u8
-    ensures { result ≡ adjustment_of low high }
+    ensures { (result ≡ adjustment_of low high) × (result ≤ 0x66) }
 {
     u8::from(low) * 0x06 + u8::from(high) * 0x60
 }

@@ -7,6 +7,7 @@ pub mod Standing
 pub mod Ended
 pub mod Levels
 pub mod Places
+pub mod PlacedTerms
 pub mod Small
 pub mod Terms
 pub mod Spelled
