@@ -13,4 +13,4 @@ returns c =
     let a = c.args in
     let s = c.overflowing_add-value in
     rw (c.pack.ensures, c.is_set.ensures, s.ensures.value, carry_whole 16 a.hl a.v 0 (omega arith) (omega arith))
-    (rw (← (overflown 65536 (a.hl + a.v) s.result.1 s.ensures.overflow)) (simp add-zero))
+    (simp (add-zero, overflown 65536 (a.hl + a.v) s.result.1 s.ensures.overflow))
