@@ -18,6 +18,7 @@ class Function:
     exported: bool = False  # under its own name in a static library
     declared: bool = False  # by the word `pub`, wherever it stands
     of_trait: bool = False  # of a trait's `impl`, which promises by the trait's ghost members too
+    owner: str = ""  # the type that `self` has, of a method
     file: object = None
     body: tuple = (0, 0)  # where the body begins and ends in the file
 
@@ -185,13 +186,16 @@ class Crate:
                 trait, given, kind = kept.groups()
                 name = word_of(kind) + trait + word_of(given or "")
                 seen = not self.hidden & set(re.findall(r"\w+", f"{trait} {given} {kind}"))
-                self.read_trait(reading.block("{", "}"), file, path + (name,), seen)
+                self.read_trait(reading.block("{", "}"), file, path + (name,), seen, kind)
                 continue
             methods = reading.take(r"impl(?:<[^>]*>)? (\w+)[^{]*")
             if methods:
                 # a public method of a public type is in reach wherever its block stands
                 kind = methods.group(1)
+                before = len(self.found)
                 self.read_items(reading.block("{", "}"), file, (*self.homes.get(kind, ()), kind), kind in self.types)
+                for one in self.found[before:]:
+                    one.owner = kind
                 continue
             function = reading.take(r'(pub(?:\([^)]*\))? )?(?:const )?(?:extern "C" )?fn ')
             if function:
@@ -206,7 +210,7 @@ class Crate:
                 reading.take(";")
 
 
-    def read_trait(self, block, file, path, seen):
+    def read_trait(self, block, file, path, seen, owner):
         """A trait's functions, as written by hand for a type: each promises what it ensures and what the ghost members say."""
         ghosts, found = {}, []
         while not block.over():
@@ -224,7 +228,7 @@ class Crate:
                 if not block.take(";") and not block.over():
                     block.block("{", "}")
         for one in found:
-            one.of_trait, one.public = True, seen
+            one.of_trait, one.public, one.owner = True, seen, owner
             one.requires += [said for name, said in ghosts.items() if name.startswith("can_")]
             one.ensures += [said for name, said in ghosts.items() if not name.startswith("can_")]
         self.found += found
@@ -280,14 +284,56 @@ def enums(root):
 
 
 def fields(root):
-    """The fields of every struct of the crates: {struct: {field: type}}."""
+    """The fields of every struct of the crates, also of one with a lifetime or a type as its parameter: {struct: {field: type}}."""
     found = {}
     for path in sorted(root.glob("crates/*/src/**/*.rt")):
-        for name, inside in re.findall(r"^pub struct (\w+) \{(.*?)^\}", without_comments(path.read_text()), re.M | re.S):
-            found[name] = dict(re.findall(r"(\w+): ([^,]+),", inside))
+        for name, inside in re.findall(r"^pub struct (\w+)[^{;]*\{(.*?)^\}", without_comments(path.read_text()), re.M | re.S):
+            told = [re.search(r"(\w+): (.+)", " ".join(part.split())) for part in parted(inside)]
+            found[name] = {field.group(1): field.group(2) for field in told if field}
+    return found
+
+
+def inside(root):
+    """What is declared of every type of the crates, public or not, behind its name: {type: text}."""
+    found = {}
+    for path in sorted(root.glob("crates/*/src/**/*.rt")):
+        text = without_comments(path.read_text())
+        for told in re.finditer(r"^ *(?:pub(?:\([^)]*\))? )?(?:struct|enum|type) (\w+)", text, re.M):
+            reading = Reading(text, told.end(), len(text))
+            reading.take(r"[^{(;=]*")
+            brackets = {"{": "}", "(": ")"}.get(text[reading.at])
+            if brackets:
+                reading.block(text[reading.at], brackets)
+            else:
+                reading.at = text.index(";", reading.at)
+            found[told.group(1)] = found.get(told.group(1), "") + text[told.end() : reading.at]
     return found
 
 
 def holding(root):
-    """The structs that hold a reference: a parameter of such a type could lend what its own type does not show."""
-    return sorted(name for name, inside in fields(root).items() if any("&" in kind for kind in inside.values()))
+    """The types that hold a reference, or another of these: a parameter of such a type lends what it does not show."""
+    texts = inside(root)
+    found = {name for name, text in texts.items() if re.search(r"&|'(?!static\b)\w", text)}
+    for _ in texts:
+        found |= {name for name, text in texts.items() if found & set(re.findall(r"\w+", text))}
+    return found
+
+
+def kinds(function):
+    """The types of a function's parameters and of its answer; that of `self` too."""
+    for parameter in function.parameters:
+        name, _, kind = parameter.partition(":")
+        kind = kind or re.sub(r"^mut\s+|\bself$", "", name) + "Self"
+        yield re.sub(r"\bSelf\b", function.owner, kind).strip()
+    yield re.sub(r"\bSelf\b", function.owner, function.answer)
+
+
+def unfollowed(root, crate):
+    """Each place at which a type that holds a reference passes into a public function, or out of it, and is not lent itself. Where
+    it is, the function's theorem speaks of the whole that is left of it, and so of what it holds."""
+    found = holding(root)
+    lent = rf"&\s*(?:'\w+\s+)?(?:mut\s+)?(?:\w+::)*(?:{'|'.join(sorted(found))})(?:<(?:'\w+|[\s,])*>)?"
+    for one in functions(crate):
+        for kind in kinds(one) if one.public else ():
+            if found & set(re.findall(r"\w+", kind)) and not re.fullmatch(lent, kind):
+                yield f"{crate.name}::{one.name()} has {kind}, which holds a reference and is not lent itself"
