@@ -1,12 +1,12 @@
 -- What is left of a part: the line that comes next, one to three bytes from the front, and the lines behind it.
 -- Assumes nothing.
-use Prim.Native.Nat.{ℕ, ◌≤◌, ◌<◌}
-use mathlib.Core.List.{List, [], ◌∷◌}
+use Prim.Native.Nat.{ℕ, ◌+◌, ◌≤◌, ◌<◌}
+use mathlib.Core.List.{List, [], ◌∷◌, ◌++◌}
 use mathlib.Core.Path.{◌≡◌, refl, ap}
 use native.Mathlib.Omega.{arith}
-use lib.ListN.{length}
+use lib.ListN.{length, length-append}
 use Rattle.arith.specs.Words.{further}
-use Rattle.listing.specs.Lines.{Line, line_of, lines_from}
+use Rattle.listing.specs.Lines.{Line, line_of, lines_from, joined, line_text}
 use Rattle.listing.specs.Left.{line_in}
 use Rattle.listing.specs.declared.Edition.{Edition}
 use Rattle.listing.specs.declared.Reading.{Reading}
@@ -30,3 +30,24 @@ module _ (e : Edition) (a : ℕ) (bytes : List ℕ) (some : 0 < length bytes) (r
   pub one_less : a < 65536
       → lines_from e a 0 bytes ≡ line_in r ∷ lines_from e (further (length r.bytes.now) a) 0 (rest_from (length r.bytes.now) bytes)
   one_less h = rw (rest_is (length r.bytes.now) bytes, same_length, read) (line_first e a bytes h some)
+
+pub some_left : (e : Edition) (a : ℕ) (bytes : List ℕ) → 0 < length bytes → lines_from e a 0 bytes ≡ [] → ⊥
+unfolding lines_from
+some_left e a [] h none = absurd (omega arith)
+some_left e a (b ∷ bytes) h none = absurd (cc)
+
+pub at_end : (lines : List Line) → lines ≡ [] → length (joined line_text lines) ≡ 0
+unfolding joined
+at_end lines none = rw none refl
+
+-- of the lines that are left, the first and the others
+module _ {all others : List Line} {l : Line} (first : all ≡ l ∷ others) where
+  pub fewer : length others < length all
+  fewer = omega (arith, ap length first)
+
+  pub text_on : joined line_text all ≡ line_text l ++ joined line_text others
+  unfolding joined
+  text_on = rw first refl
+
+  pub length_on : length (joined line_text all) ≡ length (line_text l) + length (joined line_text others)
+  length_on = rw text_on (length-append (line_text l) (joined line_text others))

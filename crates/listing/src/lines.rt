@@ -2,7 +2,7 @@
 ghost use Rattle.std.specs.Prelude.{◌≡◌, ◌<◌, length};
 ghost use Rattle.std.specs.Iterator.{YieldsFirstBy, item_count};
 ghost use Rattle.listing.specs.Forms.{measured_of};
-ghost use Rattle.listing.specs.Left.{line_in, line_next, lines_left, text_left};
+ghost use Rattle.listing.specs.Left.{line_in, line_next, lines_left, text_left, Puts, Wide};
 ghost use Rattle.listing.specs.Lines.{line_text};
 ghost use Rattle.listing.specs.Written.{Writes};
 
@@ -25,29 +25,21 @@ pub(crate) struct Lines<'a> {
 }
 
 impl Reading<'_> {
-    // Its text, by a writer.
+    // Its text, by a writer. A writer of its own keeps its place in a register.
     fn write(&self, writer: &mut Writer<'_>)
         ensures { Writes (line_text (line_in self.now)) writer.old writer.new }
     {
-        writer.word(self.address);
-        writer.push(SPACE);
-        writer.bytes(self.bytes);
-        writer.push(SPACE);
-        self.operands.marks(self.form, writer);
-        writer.push(NEWLINE);
-    }
-
-    // How long it is, tried where there is room for any.
-    fn width(&self) -> usize
-        ensures { result ≡ length (line_text (line_in self.now)) }
-    {
-        let mut room = [0u8; 26];
-        let mut writer = Writer {
-            out: &mut room,
-            at: 0,
+        let mut own = Writer {
+            out: &mut *writer.out,
+            at: writer.at,
         };
-        self.write(&mut writer);
-        writer.at
+        own.word(self.address);
+        own.push(SPACE);
+        own.bytes(self.bytes);
+        own.push(SPACE);
+        self.operands.marks(self.form, &mut own);
+        own.push(NEWLINE);
+        writer.at = own.at;
     }
 }
 
@@ -101,13 +93,38 @@ impl<'a> Lines<'a> {
         }
     }
 
+    // The text of the first line, by a writer, and on behind it; there must be one. Both walks call it and nothing else, so what is read of
+    // a line stays in registers.
+    fn put(&mut self, writer: &mut Writer<'_>)
+        requires { 0 < length self.old.rest.now }
+        ensures { Puts self.old self.new writer.old writer.new }
+    {
+        if let Some(reading) = self.next() {
+            reading.write(writer);
+        }
+    }
+
+    // How long it is, tried where there is room for any.
+    fn width(&mut self) -> usize
+        requires { 0 < length self.old.rest.now }
+        ensures { Wide self.old self.new result }
+    {
+        let mut room = [0u8; 26];
+        let mut writer = Writer {
+            out: &mut room,
+            at: 0,
+        };
+        self.put(&mut writer);
+        writer.at
+    }
+
     // The length of the whole text, where there is room for it.
-    pub(crate) fn measure(self, room: usize) -> Result<usize, Refusal>
+    pub(crate) fn measure(mut self, room: usize) -> Result<usize, Refusal>
         ensures { result ≡ measured_of (length (text_left self.entry)) room }
     {
         let mut length = 0;
-        for reading in self {
-            let wide = reading.width();
+        while !self.rest.is_empty() {
+            let wide = self.width();
             if room - length < wide {
                 return Err(Refusal::Room);
             }
@@ -117,11 +134,11 @@ impl<'a> Lines<'a> {
     }
 
     // The whole text, by a writer.
-    pub(crate) fn write(self, writer: &mut Writer<'_>)
+    pub(crate) fn write(mut self, writer: &mut Writer<'_>)
         ensures { Writes (text_left self.entry) writer.old writer.new }
     {
-        for reading in self {
-            reading.write(writer);
+        while !self.rest.is_empty() {
+            self.put(writer);
         }
     }
 }

@@ -1,12 +1,14 @@
--- The lines so far are as long as what is added up, and there is room for them.
-use Rattle.std.proofs.Common.{◌≡◌, ◌≤◌, length, map}
-use Rattle.listing.specs.Left.{line_in}
-use Rattle.listing.specs.Lines.{joined, line_text}
+-- What is added up and what is left are as long as the whole, and there is room for what is added up.
+use Rattle.std.proofs.Common.{◌+◌, ◌≡◌, ◌≤◌, length}
+use Rattle.listing.specs.Left.{lines_left, text_left}
 use Rattle.listing.proofs.lines.Lines.measure.Given as goal
 
-abbrev pub invariant-loop-reading : goal.invariant-loop-reading
-invariant-loop-reading l =
+abbrev pub invariant-loop-self : goal.invariant-loop-self
+invariant-loop-self l =
     record {
-      room : l.length ≤ l.room;
-      total : l.length ≡ length (joined line_text (map line_in l.yielded));
+      fits : l.length ≤ l.room;
+      whole : l.length + length (text_left l.self) ≡ length (text_left l.initial.self);
     }
+
+abbrev pub decreases-loop-self : goal.decreases-loop-self
+decreases-loop-self l = length (lines_left l.self)

@@ -1,18 +1,19 @@
 -- `write` writes line after line.
-use Rattle.std.proofs.lemmas.Iterator.Consumers.{YieldsList-from_first, YieldsList-end}
-use Rattle.listing.specs.Left.{line_in, lines_left}
-use Rattle.listing.specs.Lines.{joined, line_text}
-use Rattle.listing.proofs.Writers.{unwritten, each_mapped}
+use borrow.Author.Rules.{rules}
+use Rattle.listing.specs.Lines.{joined}
+use Rattle.listing.proofs.Left.{none_left, fewer, text_on}
+use Rattle.listing.proofs.Writers.{after, unwritten}
 use Rattle.listing.proofs.lines.Lines.write.Goals as goal
 
-pub loop-reading-init : goal.loop-reading-init
-unfolding joined
-loop-reading-init c = unwritten _
+pub loop-self-init : goal.loop-self-init
+loop-self-init c = λ w behind. behind
 
-pub loop-reading-preserved : goal.loop-reading-preserved
-loop-reading-preserved c = each_mapped line_text line_in _ _ c.loop-reading.invariant c.write.ensures
+pub loop-self-smaller : goal.loop-self-smaller
+loop-self-smaller c = fewer c.put.ensures.others
+
+pub loop-self-preserved : goal.loop-self-preserved
+loop-self-preserved c = λ w behind. c.loop-self.invariant w (rw (text_on c.put.ensures.others) (after c.put.ensures.writes behind))
 
 pub returns : goal.returns
-returns c =
-    let all = YieldsList-end (YieldsList-from_first line_in lines_left {s = c.into_iter-reading-iterator.result} (lines_left c.args.self) cc) c.loop-reading.yielded c.loop-reading.reading-iterator c.loop-reading.yielded_by c.next.result c.next.new.self c.in-None.is c.next.ensures.steps in
-    rw all.0 at c.loop-reading.invariant
+unfolding joined
+returns c = c.loop-self.invariant _ (rw (none_left _ _ c.loop-self.self.rest.now (search rules)) (unwritten _))
