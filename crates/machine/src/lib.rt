@@ -72,7 +72,7 @@ pub struct Taken {
 }
 
 // A step inside a run: what refused it, its cycles and the next state.
-// Stays: a Result that holds the state costs a run 10 instructions a step, since the state then goes through memory.
+// Stays: a Result that holds the state costs a run 7 instructions a step, since the state then goes through memory.
 #[derive(Clone, Copy)]
 pub(crate) struct Stepped {
     pub refusal: Option<Refusal>,
