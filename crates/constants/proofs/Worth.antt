@@ -1,4 +1,4 @@
--- Numbers: one more digit at the end, and that the digits from a place on, as many as there are, are what the reading takes for a number.
+-- Numbers: one more digit at the end, and that the digits in front, as many as there are, are what the reading takes for a number.
 -- Assumes nothing.
 use Rattle.std.proofs.Common.{cond}
 use Prim.Native.Nat.{ℕ, suc, ◌+◌, ◌*◌, ◌≤◌}
